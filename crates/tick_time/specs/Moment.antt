@@ -1,0 +1,14 @@
+-- The range of moments, in ticks of 100 ns since 1970-01-01T00:00:00Z.
+use Rattle.std.specs.Prelude.{ℕ, ◌≤◌, ℤ, pos, ◌≤ℤ◌}
+
+-- the year 10000
+abbrev pub end_ticks : ℕ
+end_ticks = 2_534_023_008_000_000_000
+
+-- the year 3000
+abbrev pub limit_ticks : ℕ
+limit_ticks = 325_036_800_000_000_000
+
+-- a number of ticks from 0 to the year 10000
+abbrev pub IsMomentTicks : ℤ → Type 0
+IsMomentTicks n = (pos 0 ≤ℤ n) × (n ≤ℤ pos end_ticks)
