@@ -1,0 +1,3 @@
+-- what the contracts rest on
+pub mod Laws
+pub mod Order

@@ -1,14 +1,25 @@
-//! The values that rows hold, and the lists and texts that every crate above speaks of.
+//! The values that rows hold, and the lists, texts and records that every crate above speaks of.
 //! `Seq` and `Text` are seen by contracts as lists; `Copies` makes equal values where there is memory.
-//! What matters: `print_row`, clause of specs/Printed.antt.
+//! What matters: `order`, clause of specs/Order.antt with its law in src/laws.rt, and `print_row`,
+//! clause of specs/Printed.antt.
 //! It reads no file and judges no record.
 #![tactic(auto)]
 
 mod copies;
+mod kind;
+mod laws;
+mod policy;
+mod record;
 mod seq;
 mod text;
+mod value;
 
 pub use copies::Copies;
+pub use kind::{Column, Columns, Format, Kind};
+pub use laws::order_is_total;
+pub use policy::Policy;
+pub use record::{Dropped, Event, Item, Position, Rule, Stamped};
 pub use seq::Seq;
 pub use text::Text;
 pub use tick_time::Memory;
+pub use value::{Value, order};

@@ -1,9 +1,13 @@
 //! `Seq`, a list that grows at its end.
 
 ghost use Rattle.std.specs.Prelude.{◌≡◌, [], ◌∷◌, ◌++◌, IfOk, OnOk, OnErr};
+ghost use Rattle.std.specs.Cmp.Lexicographic.{pointwise, slice_cmp, slice_partial_cmp};
+ghost use Rattle.std.specs.Cmp.Lexicographic.{lists_per, lists_equiv, lists_po};
+ghost use Rattle.std.specs.Cmp.Lexicographic.{lists_total, lists_agrees, lists_ties};
 
 use crate::Copies;
 use std::alloc::Global;
+use std::cmp::Ordering;
 use std::marker::Model;
 use tick_time::Memory;
 
@@ -76,6 +80,20 @@ impl<T: Drop> Seq<T> {
     }
 }
 
+impl Seq<u8> {
+    /// Adds bytes at the end.
+    ///
+    /// # Errors
+    /// `Memory` where the list could not grow; the list is then as before.
+    pub fn extend(&mut self, items: &[u8]) -> Result<(), Memory>
+        ensures ok { OnOk result (self.new ≡ self.old ++ items.now) }
+        ensures err { OnErr result (self.new ≡ self.old) }
+    {
+        self.items.extend_from_slice(items)?;
+        Ok(())
+    }
+}
+
 impl<T: Copies> Seq<T> {
     /// The list of copies of these items.
     ///
@@ -106,4 +124,43 @@ fn copies_of<T: Copies>(alloc: Global, items: &[T]) -> Result<Vec<T>, Memory>
         list.push(item.copy()?)?;
     }
     Ok(list)
+}
+
+impl<T: PartialEq> PartialEq for Seq<T> {
+    ghost eq = { λ v w. pointwise T.eq v w };
+
+    ghost laws = { lists_per T.laws };
+
+    fn eq(&self, other: &Self) -> bool {
+        self.items() == other.items()
+    }
+}
+
+impl<T: Eq> Eq for Seq<T> {
+    ghost laws = { lists_equiv T.Eq.laws };
+}
+
+impl<T: PartialOrd> PartialOrd for Seq<T> {
+    ghost partial_cmp = { λ v w. slice_partial_cmp T.partial_cmp v w };
+
+    ghost laws = { lists_po T.PartialOrd.laws };
+
+    fn partial_cmp(&self, other: &Self) -> Option<Ordering> {
+        self.items().partial_cmp(&other.items())
+    }
+}
+
+/// Lists are ordered by the first items that differ, and a front comes before what goes on.
+impl<T: Ord> Ord for Seq<T> {
+    ghost cmp = { λ v w. slice_cmp T.cmp v w };
+
+    ghost total = { lists_total T.total };
+
+    ghost matches_partial_cmp = { λ v w. lists_agrees T.matches_partial_cmp v w };
+
+    ghost matches_eq = { λ v w. lists_ties T.cmp T.matches_eq v w };
+
+    fn cmp(&self, other: &Self) -> Ordering {
+        self.items().cmp(&other.items())
+    }
 }

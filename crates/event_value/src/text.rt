@@ -2,15 +2,16 @@
 
 ghost use Rattle.std.specs.Prelude.{◌≡◌, [], ◌∷◌, ◌++◌, IfOk, OnOk, OnErr};
 
-use crate::Copies;
+use crate::{Copies, Seq};
 use std::alloc::Global;
 use std::marker::Model;
 use tick_time::Memory;
 
 /// A text, as the bytes that it was read from. Contracts see it as the list of its bytes.
-#[derive(Debug, Drop)]
+/// Texts are ordered by their bytes.
+#[derive(Debug, Drop, PartialEq, Eq, PartialOrd, Ord)]
 pub struct Text {
-    bytes: Vec<u8>,
+    bytes: Seq<u8>,
 }
 
 impl Model for Text {
@@ -18,7 +19,9 @@ impl Model for Text {
 
     ghost Value = { List ℕ };
 
-    ghost view = { λ t. t.bytes.items };
+    ghost view = { λ t. t.bytes };
+
+    ghost inverse = { λ b. record { bytes = b } };
 }
 
 impl Text {
@@ -27,7 +30,7 @@ impl Text {
         ensures { result ≡ [] }
     {
         Text {
-            bytes: Vec::new(alloc),
+            bytes: Seq::empty(alloc),
         }
     }
 
@@ -35,7 +38,9 @@ impl Text {
     pub fn from_vec(bytes: Vec<u8>) -> Self
         ensures { result ≡ bytes.items }
     {
-        Text { bytes }
+        Text {
+            bytes: Seq::from_vec(bytes),
+        }
     }
 
     /// The text of a copy of these bytes.
@@ -46,7 +51,7 @@ impl Text {
         ensures { IfOk result (λ text. text ≡ items.now) }
     {
         Ok(Text {
-            bytes: Vec::from_slice(alloc, items)?,
+            bytes: Seq::from_vec(Vec::from_slice(alloc, items)?),
         })
     }
 
@@ -58,8 +63,7 @@ impl Text {
         ensures ok { OnOk result (self.new ≡ self.old ++ item ∷ []) }
         ensures err { OnErr result (self.new ≡ self.old) }
     {
-        self.bytes.push(item)?;
-        Ok(())
+        self.bytes.push(item)
     }
 
     /// Adds bytes at the end.
@@ -70,25 +74,24 @@ impl Text {
         ensures ok { OnOk result (self.new ≡ self.old ++ items.now) }
         ensures err { OnErr result (self.new ≡ self.old) }
     {
-        self.bytes.extend_from_slice(items)?;
-        Ok(())
+        self.bytes.extend(items)
     }
 
     /// The allocator that the text keeps.
     pub fn allocator(&self) -> Global {
-        *self.bytes.allocator()
+        self.bytes.allocator()
     }
 
     /// The bytes in order. It takes no memory.
     pub fn items(&self) -> &[u8]
         ensures { result.now ≡ self.now }
     {
-        self.bytes.as_slice()
+        self.bytes.items()
     }
 }
 
 impl Copies for Text {
     fn copy(&self) -> Result<Self, Memory> {
-        Text::of(self.allocator(), &self.bytes)
+        Text::of(self.allocator(), self.items())
     }
 }
