@@ -1,0 +1,10 @@
+use Rattle.std.proofs.Common.{arith}
+use Rattle.outside.proofs.WrittenLemmas.{WritesAllBut-more}
+use Rattle.outside.proofs.writing.write_all.Goals as goal
+
+pub loop-rest-preserved : goal.loop-rest-preserved
+loop-rest-preserved g c = record {
+  written = rw c.split_at.ensures.back
+      (WritesAllBut-more _ _ _ _ _ c.in_ok-count.count c.loop-rest.invariant.written c.in_ok-count.ensures.written);
+  never_falls = omega (arith, c.in_ok-count.ensures.never_falls);
+}
