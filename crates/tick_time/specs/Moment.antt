@@ -1,5 +1,5 @@
 -- The range of moments, in ticks of 100 ns since 1970-01-01T00:00:00Z.
-use Rattle.std.specs.Prelude.{ℕ, ◌≤◌, ℤ, pos, ◌≤ℤ◌}
+use Rattle.std.specs.Prelude.{ℕ, ℤ, pos, ◌≤ℤ◌}
 
 -- the year 10000
 abbrev pub end_ticks : ℕ

@@ -31,6 +31,8 @@ impl Model for Moment {
 }
 
 impl Moment {
+    ghost use Rattle.tick_time.specs.MomentReading.{moment_below_limit};
+
     /// The moment 0, the start of 1970.
     pub fn zero() -> Moment
         ensures { result ≡ 0 }
@@ -44,6 +46,17 @@ impl Moment {
         ensures value { IfSome result (λ m. pos m ≡ n) }
     {
         if (0..=END).contains(&n) {
+            Some(Moment { ticks: n as u64 })
+        } else {
+            None
+        }
+    }
+
+    // The moment of this number of ticks, where it is at least 0 and below `LIMIT`.
+    pub(crate) fn below_limit(n: i64) -> Option<Moment>
+        ensures { result ≡ moment_below_limit n }
+    {
+        if (0..LIMIT).contains(&n) {
             Some(Moment { ticks: n as u64 })
         } else {
             None

@@ -1,0 +1,52 @@
+//! The moment that a text names: a date, and behind it nothing, or a time.
+
+ghost use Rattle.std.specs.Prelude.{◌≡◌, ◌<◌, ◌≤◌, None, Some, IfSome, MatchOption};
+ghost use Rattle.tick_time.specs.MomentReading.{moment_of, date_at_front};
+
+use crate::civil_date::CivilDate;
+use crate::digits::{is_pair_below, pair_value};
+use crate::moment::Moment;
+use crate::read_time::read_time;
+use crate::unit::DAY;
+
+// YYYY-MM-DD: the date that it names, and what stands behind it.
+fn read_date(text: &[u8]) -> Option<(CivilDate, &[u8])>
+    ensures value { MatchOption result (date_at_front text.now ≡ None)
+        (λ r. date_at_front text.now ≡ Some (r.0, r.1.now)) }
+    ensures year { IfSome result (λ r. r.0.year < 10000) }
+    ensures month { IfSome result (λ r. r.0.month < 100) }
+    ensures day { IfSome result (λ r. r.0.day < 100) }
+{
+    match text {
+        [a, b, c, d, h, e, f, i, g, j, rest @ ..] => {
+            if is_pair_below(100, *a, *b)
+                && is_pair_below(100, *c, *d)
+                && *h == b'-'
+                && is_pair_below(100, *e, *f)
+                && *i == b'-'
+                && is_pair_below(100, *g, *j)
+            {
+                let date = CivilDate {
+                    year: pair_value(*a, *b) as u16 * 100 + pair_value(*c, *d) as u16,
+                    month: pair_value(*e, *f) as u8,
+                    day: pair_value(*g, *j) as u8,
+                };
+                Some((date, rest))
+            } else {
+                None
+            }
+        }
+        _ => None,
+    }
+}
+
+/// The moment that a text names; `None` exactly where it names none from 0 to below `LIMIT`.
+#[tactic(auto, unfolding(crate::specs::MomentReading::moment_of))]
+pub fn read_moment(text: &[u8]) -> Option<Moment>
+    ensures { result ≡ moment_of text.now }
+{
+    let (date, rest) = read_date(text)?;
+    let number = date.number()?;
+    let time = read_time(rest)?;
+    Moment::below_limit(number * DAY as i64 + time)
+}
