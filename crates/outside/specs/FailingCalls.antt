@@ -2,7 +2,7 @@
 use Rattle.std.specs.Prelude.{◌≡◌, ℕ, List, Bool, Contains, if◌then◌else◌}
 use Rattle.outside.specs.Faults.{next_count}
 
--- the numbers of the calls that fail, counted from 0, how many calls there were, and how many faults
+-- the numbers of the calls that fail, counted from 0, and how many calls and faults there were
 pub record FailingCalls : Type 0 where
   pub numbers : List ℕ
   pub calls : ℕ

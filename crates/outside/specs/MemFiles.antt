@@ -25,7 +25,8 @@ fresh_files held numbers =
 
 -- all that files can make known
 abbrev pub known_of : FilesInMemory → Option KnownFiles
-known_of files = Some (record { holds = held_in files.held; asked = files.asked; left = files.left })
+known_of files =
+    Some (record { holds = held_in files.held; asked = files.asked; left = files.left })
 
 -- a name that isn't held, or a call that is to fail
 abbrev pub HasCause : FilesInMemory → List ℕ → Type 0

@@ -1,7 +1,8 @@
 -- The cause of a refusal to read, as the files gave it.
 use Rattle.std.specs.Prelude.{◌≡◌}
 use Rattle.outside.specs.declared.files.FileErr.{FileErr}
-use Rattle.outside.specs.declared.files.FileErr.TheVariants.{Fault as file_fault, Memory as file_memory}
+use Rattle.outside.specs.declared.files.FileErr.TheVariants.{Fault as file_fault}
+use Rattle.outside.specs.declared.files.FileErr.TheVariants.{Memory as file_memory}
 use Rattle.outside.specs.declared.segment.ReadErr.{ReadErr}
 use Rattle.outside.specs.declared.segment.ReadErr.TheVariants.{Fault, Memory}
 

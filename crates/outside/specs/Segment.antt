@@ -12,7 +12,8 @@ abbrev pub segment_of : ℕ → List ℕ → Segment
 segment_of limit bytes = if nat_le (length bytes) limit then Bytes bytes else TooLong
 
 -- the file is asked for once, or for want of memory perhaps not at all; what is held stays
-pub record AsksFor (name : List ℕ) (result : Result Segment ReadErr) (old new : Option KnownFiles) : Type 0 where
+pub record AsksFor (name : List ℕ) (result : Result Segment ReadErr) (old new : Option KnownFiles)
+    : Type 0 where
   pub names : List (List ℕ)
   pub left : List ℕ
   pub known : new ≡ option_map (files_after_asking names left) old

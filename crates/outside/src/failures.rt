@@ -1,7 +1,8 @@
 //! `Failures`, which calls of an object in memory fail.
 
 ghost use Rattle.std.specs.Prelude.{◌≤◌, ◌≡◌, ◌↔◌, IsTrue};
-ghost use Rattle.outside.specs.FailingCalls.{IsDue, calls_after_call, calls_after_fault, fresh_calls};
+ghost use Rattle.outside.specs.FailingCalls.{IsDue, fresh_calls};
+ghost use Rattle.outside.specs.FailingCalls.{calls_after_call, calls_after_fault};
 
 use event_value::Seq;
 use std::marker::Model;

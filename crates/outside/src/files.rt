@@ -30,7 +30,7 @@ impl From<Memory> for FileErr {
 
 /// Files that are read one at a time, from the start to the end.
 pub trait Files {
-    /// What the files hold, which names were asked for, and what is left to read, where it is known.
+    /// What the files hold, which names were asked for and what is left to read, where known.
     ghost known: { Self → Option KnownFiles };
 
     /// How often a call has failed, at most the last count of 64 bits.
@@ -41,10 +41,13 @@ pub trait Files {
     /// # Errors
     /// `Fault` where the outside failed, as at a name that isn't held; `Memory`.
     fn begin(&mut self, name: &[u8]) -> Result<(), FileErr>
-        ensures known { known self.new ≡ option_map (files_after_begin name.now result) (known self.old) }
-        ensures held { OnOk result (IfSome (known self.old) (λ files. IsSome (files.holds name.now))) }
+        ensures known { known self.new
+            ≡ option_map (files_after_begin name.now result) (known self.old) }
+        ensures held { OnOk result (
+            IfSome (known self.old) (λ files. IsSome (files.holds name.now))) }
         ensures never_falls { faults self.old ≤ faults self.new }
-        ensures cause { IsErrOf result FileErr.Fault → HasRisen (faults self.old) (faults self.new) };
+        ensures cause { IsErrOf result FileErr.Fault
+            → HasRisen (faults self.old) (faults self.new) };
 
     /// Reads the next bytes of the file that was begun last; 0 of them at its end.
     ///
@@ -53,9 +56,11 @@ pub trait Files {
     fn read(&mut self, into: &mut [u8]) -> Result<usize, FileErr>
         ensures known { known self.new ≡ option_map (files_after_read result) (known self.old) }
         ensures fits { IfOk result (λ count. count ≤ length into.old) }
-        ensures bytes { IfOk result (λ count. IfSome (known self.old) (GivesPrefix count into.new)) }
+        ensures bytes { IfOk result (λ count.
+            IfSome (known self.old) (GivesPrefix count into.new)) }
         ensures progress { IfOk result (λ count.
             IfSome (known self.old) (MakesProgress count (length into.old))) }
         ensures never_falls { faults self.old ≤ faults self.new }
-        ensures cause { IsErrOf result FileErr.Fault → HasRisen (faults self.old) (faults self.new) };
+        ensures cause { IsErrOf result FileErr.Fault
+            → HasRisen (faults self.old) (faults self.new) };
 }

@@ -1,7 +1,7 @@
 //! What a run reads and writes: files by name and a sink, each a trait with a written meaning.
 //! `read_file` reads a file up to a limit; `write_all` writes all bytes, or a prefix of them.
-//! What matters: clause `content` of `read_file`, clauses `ok` and `err` of `write_all`, and `cause`
-//! of both: a fault is answered only where the count of faults has risen in the call.
+//! What matters: clause `content` of `read_file`, clauses `ok` and `err` of `write_all`, and of both
+//! `cause`: a fault is answered only where the count of faults has risen in the call.
 //! The meaning: specs/KnownFiles.antt, specs/Segment.antt, specs/Written.antt, specs/Faults.antt.
 //! `MemFiles` and `MemSink` are files and a sink in memory, of which chosen calls fail.
 //! The adapters over real files and standard output are left to the program.

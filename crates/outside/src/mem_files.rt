@@ -29,7 +29,12 @@ impl Model for MemFiles {
 
     ghost Value = { FilesInMemory };
 
-    ghost view = { λ m. record { held = m.held; asked = m.asked; left = m.left; failing = m.failures } };
+    ghost view = { λ m. record {
+      held = m.held;
+      asked = m.asked;
+      left = m.left;
+      failing = m.failures;
+    } };
 }
 
 impl MemFiles {
@@ -59,10 +64,13 @@ impl Files for MemFiles {
     ghost faults = { λ m. m.failing.faults };
 
     fn begin(&mut self, name: &[u8]) -> Result<(), FileErr>
-        ensures known { known_of self.new ≡ option_map (files_after_begin name.now result) (known_of self.old) }
-        ensures held { OnOk result (IfSome (known_of self.old) (λ files. IsSome (files.holds name.now))) }
+        ensures known { known_of self.new
+            ≡ option_map (files_after_begin name.now result) (known_of self.old) }
+        ensures held { OnOk result (
+            IfSome (known_of self.old) (λ files. IsSome (files.holds name.now))) }
         ensures never_falls { self.old.failing.faults ≤ self.new.failing.faults }
-        ensures cause { IsErrOf result FileErr.Fault → HasRisen self.old.failing.faults self.new.failing.faults }
+        ensures cause { IsErrOf result FileErr.Fault
+            → HasRisen self.old.failing.faults self.new.failing.faults }
 
         // Which calls fail: those that are to, and at a name that isn't held.
         ensures due { IsDue self.old.failing → IsErr result }
@@ -85,13 +93,16 @@ impl Files for MemFiles {
     }
 
     fn read(&mut self, into: &mut [u8]) -> Result<usize, FileErr>
-        ensures known { known_of self.new ≡ option_map (files_after_read result) (known_of self.old) }
+        ensures known { known_of self.new
+            ≡ option_map (files_after_read result) (known_of self.old) }
         ensures fits { IfOk result (λ count. count ≤ length into.old) }
-        ensures bytes { IfOk result (λ count. IfSome (known_of self.old) (GivesPrefix count into.new)) }
+        ensures bytes { IfOk result (λ count.
+            IfSome (known_of self.old) (GivesPrefix count into.new)) }
         ensures progress { IfOk result (λ count.
             IfSome (known_of self.old) (MakesProgress count (length into.old))) }
         ensures never_falls { self.old.failing.faults ≤ self.new.failing.faults }
-        ensures cause { IsErrOf result FileErr.Fault → HasRisen self.old.failing.faults self.new.failing.faults }
+        ensures cause { IsErrOf result FileErr.Fault
+            → HasRisen self.old.failing.faults self.new.failing.faults }
 
         // Which calls fail: those that are to.
         ensures fault { IsErr result ↔ IsDue self.old.failing }

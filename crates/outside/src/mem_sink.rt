@@ -1,6 +1,7 @@
 //! `MemSink`, a sink in memory.
 
-ghost use Rattle.std.specs.Prelude.{◌<◌, ◌≤◌, ◌≡◌, ◌↔◌, [], Some, length, option_map, IfOk, IsErrOf};
+ghost use Rattle.std.specs.Prelude.{◌<◌, ◌≤◌, ◌≡◌, ◌↔◌, [], length, Some, option_map};
+ghost use Rattle.std.specs.Prelude.{IfOk, IsErrOf};
 ghost use Rattle.outside.specs.Faults.{HasRisen};
 ghost use Rattle.outside.specs.FailingCalls.{IsDue, IsNextCall};
 ghost use Rattle.outside.specs.MemSink.{fresh_sink};
@@ -64,7 +65,8 @@ impl Sink for MemSink {
         ensures fits { IfOk result (λ count. count ≤ length bytes.now) }
         ensures progress { IfOk result (λ count. 0 < length bytes.now → 0 < count) }
         ensures never_falls { self.old.failing.faults ≤ self.new.failing.faults }
-        ensures cause { IsErrOf result SinkErr.Fault → HasRisen self.old.failing.faults self.new.failing.faults }
+        ensures cause { IsErrOf result SinkErr.Fault
+            → HasRisen self.old.failing.faults self.new.failing.faults }
 
         // Which calls fail: those that are to. Every other takes all, where there is memory.
         ensures fault { IsErrOf result SinkErr.Fault ↔ IsDue self.old.failing }

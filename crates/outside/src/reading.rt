@@ -24,10 +24,12 @@ pub fn read_file<F: Files>(
 ) -> Result<Segment, ReadErr>
     ensures content { IfOk result (λ segment.
         IfSome (F.known files.old) (λ known. segment ≡ segment_of limit (file_of known name.now))) }
-    ensures held { OnOk result (IfSome (F.known files.old) (λ known. IsSome (known.holds name.now))) }
+    ensures held { OnOk result (
+        IfSome (F.known files.old) (λ known. IsSome (known.holds name.now))) }
     ensures asked { AsksFor name.now result (F.known files.old) (F.known files.new) }
     ensures never_falls { F.faults files.old ≤ F.faults files.new }
-    ensures cause { IsErrOf result ReadErr.Fault → HasRisen (F.faults files.old) (F.faults files.new) }
+    ensures cause { IsErrOf result ReadErr.Fault
+        → HasRisen (F.faults files.old) (F.faults files.new) }
 {
     files.begin(name)?;
     let mut bytes = Vec::new(alloc);

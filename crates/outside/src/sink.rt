@@ -27,9 +27,11 @@ pub trait Sink {
     /// # Errors
     /// `Fault` where the outside failed; `Memory`. Nothing is then written.
     fn write(&mut self, bytes: &[u8]) -> Result<usize, SinkErr>
-        ensures written { written self.new ≡ option_map (bytes_after_write bytes.now result) (written self.old) }
+        ensures written { written self.new
+            ≡ option_map (bytes_after_write bytes.now result) (written self.old) }
         ensures fits { IfOk result (λ count. count ≤ length bytes.now) }
         ensures progress { IfOk result (λ count. 0 < length bytes.now → 0 < count) }
         ensures never_falls { faults self.old ≤ faults self.new }
-        ensures cause { IsErrOf result SinkErr.Fault → HasRisen (faults self.old) (faults self.new) };
+        ensures cause { IsErrOf result SinkErr.Fault
+            → HasRisen (faults self.old) (faults self.new) };
 }

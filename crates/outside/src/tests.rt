@@ -6,7 +6,7 @@ use crate::{
     FileErr, Files, HeldFile, MemFiles, MemSink, ReadErr, Segment, Sink, SinkErr, read_file,
     write_all,
 };
-use event_value::{Memory, Seq, Text};
+use event_value::{Copies, Memory, Seq, Text};
 use std::alloc::Global;
 use std::test::Fail;
 
@@ -129,5 +129,17 @@ fn a_call_that_fails_passes_nothing_over(rt: HostRuntime) -> Result<(), Fail> {
     assert_eq!(rt; files.read(&mut piece), Ok(3));
     assert_eq!(rt; files.read(&mut piece), Ok(2));
     assert_eq!(rt; files.read(&mut piece), Ok(0));
+    Ok(())
+}
+
+#[test]
+fn a_segment_and_a_cause_are_copied(rt: HostRuntime) -> Result<(), Fail> {
+    let alloc = rt.alloc();
+    let mut files = three_files(alloc, &[])?;
+    let segment = read_file(alloc, &mut files, b"five", 5).map_err(|_| Fail::from("unread"))?;
+    let copied = segment.copy()?;
+    assert_eq!(rt; Read::of(&Ok(copied)), Read::Count(5));
+    assert_eq!(rt; Read::of(&Ok(Segment::TooLong.copy()?)), Read::TooLong);
+    assert_eq!(rt; ReadErr::Fault.copy()?, ReadErr::Fault);
     Ok(())
 }

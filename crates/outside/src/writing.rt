@@ -14,7 +14,8 @@ pub fn write_all<O: Sink>(out: &mut O, bytes: &[u8]) -> Result<(), SinkErr>
     ensures ok { OnOk result (O.written out.new ≡ bytes_behind (O.written out.old) bytes.now) }
     ensures err { OnErr result (WritesPrefix bytes.now (O.written out.old) (O.written out.new)) }
     ensures never_falls { O.faults out.old ≤ O.faults out.new }
-    ensures cause { IsErrOf result SinkErr.Fault → HasRisen (O.faults out.old) (O.faults out.new) }
+    ensures cause { IsErrOf result SinkErr.Fault
+        → HasRisen (O.faults out.old) (O.faults out.new) }
 {
     let mut rest = bytes;
     while !rest.is_empty() {
