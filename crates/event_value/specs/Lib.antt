@@ -1,3 +1,4 @@
 -- what the contracts rest on
 pub mod Laws
 pub mod Order
+pub mod Printed

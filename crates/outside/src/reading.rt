@@ -3,7 +3,7 @@
 ghost use Rattle.std.specs.Prelude.{◌≤◌, ◌≡◌, IfOk, OnOk, IfSome, IsSome, IsErrOf};
 ghost use Rattle.outside.specs.Faults.{HasRisen};
 ghost use Rattle.outside.specs.KnownFiles.{file_of};
-ghost use Rattle.outside.specs.Segment.{segment_of, AsksFor};
+ghost use Rattle.outside.specs.Segment.{segment_of, AsksFor, IsWithin};
 
 use crate::{Files, ReadErr, Segment};
 use event_value::Seq;
@@ -24,6 +24,7 @@ pub fn read_file<F: Files>(
 ) -> Result<Segment, ReadErr>
     ensures content { IfOk result (λ segment.
         IfSome (F.known files.old) (λ known. segment ≡ segment_of limit (file_of known name.now))) }
+    ensures within { IfOk result (IsWithin limit) }
     ensures held { OnOk result (
         IfSome (F.known files.old) (λ known. IsSome (known.holds name.now))) }
     ensures asked { AsksFor name.now result (F.known files.old) (F.known files.new) }
