@@ -1,0 +1,10 @@
+-- what the contracts rest on
+pub mod Bytes
+pub mod Steps
+pub mod Tokens
+pub mod Symbols
+pub mod Lexemes
+pub mod Grammar
+pub mod QueryGrammar
+-- inside the crate
+pub mod Reading
