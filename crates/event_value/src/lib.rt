@@ -13,6 +13,8 @@ mod print;
 mod print_value;
 mod record;
 mod seq;
+#[cfg(test)]
+mod tests;
 mod text;
 mod value;
 

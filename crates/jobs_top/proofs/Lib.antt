@@ -1,0 +1,5 @@
+pub mod AnswerLemmas
+pub mod AskingLemmas
+pub mod JsonLemmas
+pub mod LinesLemmas
+pub mod WrittenLemmas
