@@ -1,0 +1,5 @@
+pub mod ListLemmas
+pub mod StretchLemmas
+pub mod InOrderLemmas
+pub mod StableLemmas
+pub mod MergeLemmas
