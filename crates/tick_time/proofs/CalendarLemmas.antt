@@ -1,6 +1,7 @@
 -- The calendar's numbers are jiff's day numbers, and the date of a number is the one that has it.
 use Rattle.std.proofs.Common.{◌≡◌, ℕ, zero, suc, ◌+◌, ◌-◌, ◌<◌, ◌≤◌, true, nat_lt, refl, ap, sym, ⊎_elim, ◌∙◌, arith, Some, None, ℤ, pos, unsigned_abs}
-use Rattle.std.proofs.lemmas.Bool.{cond_both, ltb-true, ltb-false, cases_lt, false_from_ne_true}
+use Rattle.std.proofs.lemmas.Bool.{cond_both, ltb-true, ltb-false, cases_lt, false_from_ne_true, cond-true}
+use Rattle.std.proofs.lemmas.Option.{same_Some}
 use Rattle.std.proofs.lemmas.Bool.Decides.{nat_tests}
 use Rattle.jiff_core.specs.Calendar as jiff
 use Rattle.jiff_core.specs.Date.{epoch_day}
@@ -139,10 +140,16 @@ days_before_year_mono y (suc k) = let e : suc k + y ≡ suc (k + y) = omega arit
 days_before_year-end : days_before_year 10_000 ≡ 3_652_425
 days_before_year-end = omega (arith, days_before_year-same 10_000, day_count-end)
 
--- a date before the year 10000 by its number is so by its year
+-- the dates from the year 10000 on have that many days before them
+pub days_before_from_end : (d : CivilDate) → 10_000 ≤ d.year → 3_652_425 ≤ days_before d
+days_before_from_end d h =
+    let e : d.year - 10_000 + 10_000 ≡ d.year = omega arith in
+    omega (arith, days_before_year-end, rw e at (days_before_year_mono 10_000 (d.year - 10_000)))
+
+-- so a date with fewer is of an earlier year
 pub year_before_end : (d : CivilDate) → days_before d < 3_652_425 → d.year < 10_000
 year_before_end d h =
-    ⊎_elim (λ lt. lt) (λ (le : 10_000 ≤ d.year). let e : d.year - 10_000 + 10_000 ≡ d.year = omega arith in absurd (omega (arith, h, days_before_year-end, rw e at (days_before_year_mono 10_000 (d.year - 10_000))))) (cases_lt d.year 10_000)
+    ⊎_elim (λ lt. lt) (λ (le : 10_000 ≤ d.year). absurd (omega (arith, h, days_before_from_end d le))) (cases_lt d.year 10_000)
 
 pub IsDate-is_date : (d : CivilDate) → is_date d ≡ true → IsDate d
 IsDate-is_date d h = record { month_from = grind (arith, nat_tests); month_to = grind (arith, nat_tests); day_from = grind (arith, nat_tests); day_to = grind (arith, nat_tests) }
@@ -196,3 +203,12 @@ date_number-none d y m n year month day low none =
       (omega (arith, signed_arith, is.day_from), omega (arith, signed_arith, is.day_to)),
     ))) in
     rw no
+
+-- the date of a number is there
+pub date_of_number_exists : (n : ℕ) → is_date (date_of_number n) ≡ true
+date_of_number_exists n = is_date-IsDate (date_of_number n) (date_of_number_is n).date
+
+-- the number of a date that is there
+pub date_number-is : (d : CivilDate) (z : ℤ) → is_date d ≡ true → Some z ≡ date_number d → z ≡ day_number d
+unfolding date_number
+date_number-is d z exists is = same_Some _ _ (is ∙ cond-true (is_date d) (Some (day_number d)) None exists)

@@ -1,5 +1,6 @@
 -- The Gregorian calendar: the lengths of years and months, the number of a date, the date of a number.
-use Rattle.std.specs.Prelude.{ℕ, zero, suc, ◌+◌, ◌-◌, ◌%◌, Bool, not, ◌==◌, ◌&&◌, ◌||◌, nat_lt, nat_le, if◌then◌else◌, Option, Some, None, ℤ, pos, ◌-ℤ◌}
+use Rattle.std.specs.Prelude.{ℕ, zero, suc, ◌+◌, ◌-◌, ◌/◌, ◌%◌, Bool, not, ◌==◌, ◌&&◌, ◌||◌, nat_lt, nat_le, if◌then◌else◌, Option, Some, None, ℤ, pos, ◌-ℤ◌}
+use Rattle.tick_time.specs.Ticks.{day_ticks}
 use Rattle.tick_time.specs.declared.civil_date.CivilDate.{CivilDate}
 
 -- every fourth year, but of the centuries only every fourth
@@ -57,3 +58,7 @@ next_date d =
 unfoldable pub date_of_number : ℕ → CivilDate
 date_of_number zero = epoch
 date_of_number (suc n) = next_date (date_of_number n)
+
+-- the date of a moment
+abbrev pub date_of : ℕ → CivilDate
+date_of n = date_of_number (n / day_ticks)

@@ -1,6 +1,6 @@
 -- What the text of a moment means: a date, and behind it nothing, or a time of day with a zone or none.
 use Rattle.std.specs.Prelude.{ℕ, ◌+◌, ◌-◌, ◌*◌, ◌/◌, ◌&&◌, ◌||◌, ◌==◌, nat_le, nat_lt, Bool, List, [], ◌∷◌, length, drop, take_while, Option, Some, None, option_map, option_and_then, if◌then◌else◌, ℤ, pos, negsuc, neg_ℤ, ◌+ℤ◌, ◌-ℤ◌, ◌*ℤ◌}
-use Rattle.tick_time.specs.Moment.{limit_ticks}
+use Rattle.tick_time.specs.Moment.{moment_below_limit}
 use Rattle.tick_time.specs.Ticks.{day_ticks, hour_ticks, minute_ticks, second_ticks}
 use Prim.Native.Char.{code}
 use Rattle.tick_time.specs.declared.civil_date.CivilDate.{CivilDate}
@@ -87,11 +87,6 @@ time_of (c ∷ cs) =
     option_and_then (λ (s : ℕ × List ℕ).
     option_and_then (λ (offset : ℤ). Some (pos (m.0 + s.0) -ℤ offset))
     (offset_of s.1)) (seconds_at_front m.1)) (clock_at_front (c ∷ cs))
-
--- the moment of so many ticks, where it is at least 0 and below the limit
-abbrev pub moment_below_limit : ℤ → Option ℕ
-moment_below_limit (pos n) = if nat_lt n limit_ticks then Some n else None
-moment_below_limit (negsuc _) = None
 
 -- the moment that a text names
 unfoldable pub moment_of : List ℕ → Option ℕ

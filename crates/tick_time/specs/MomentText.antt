@@ -1,9 +1,9 @@
 -- The written form of a moment, YYYY-MM-DDTHH:MM:SS.fffffffZ.
 use Rattle.std.specs.Prelude.{ℕ, ◌+◌, ◌-◌, ◌/◌, ◌%◌, min, List, [], ◌∷◌, ◌++◌, codes}
-use Rattle.tick_time.specs.Moment.{end_ticks}
+use Rattle.tick_time.specs.Moment.{before_end}
 use Rattle.tick_time.specs.Ticks.{day_ticks, hour_ticks, minute_ticks, second_ticks}
 use Rattle.tick_time.specs.declared.civil_date.CivilDate.{CivilDate}
-use Rattle.tick_time.specs.Calendar.{date_of_number}
+use Rattle.tick_time.specs.Calendar.{date_of}
 
 -- the code of the digit 0
 abbrev pub zero_digit : ℕ
@@ -36,11 +36,7 @@ time_text t =
 -- the text of a moment before the year 10000
 abbrev pub text_before_end : ℕ → List ℕ
 text_before_end n =
-    date_text (date_of_number (n / day_ticks)) ++ (codes "T" ++ (time_text (n % day_ticks) ++ codes "Z"))
-
--- the greatest moment counts as the one before it
-abbrev pub before_end : ℕ → ℕ
-before_end n = min n (end_ticks - 1)
+    date_text (date_of n) ++ (codes "T" ++ (time_text (n % day_ticks) ++ codes "Z"))
 
 -- the text of a moment
 unfoldable pub moment_text : ℕ → List ℕ

@@ -5,15 +5,27 @@
 #![tactic(auto)]
 
 mod civil_date;
+mod dates;
 mod digits;
 mod memory;
 mod moment;
+mod names;
+mod part;
 mod read;
 mod read_time;
+mod span;
+#[cfg(test)]
+mod tests;
+mod ticks;
 mod unit;
 mod write;
 
+pub use dates::{date_add, date_diff, date_part};
 pub use memory::Memory;
 pub use moment::{END, LIMIT, Moment};
+pub use names::{part_of, unit_of};
+pub use part::Part;
 pub use read::read_moment;
+pub use span::{Span, span_of};
+pub use unit::Unit;
 pub use write::write_moment;

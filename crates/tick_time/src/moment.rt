@@ -1,7 +1,7 @@
 //! `Moment`, a count of ticks.
 
-ghost use Rattle.std.specs.Prelude.{◌≡◌, ◌≤◌, ◌↔◌, pos, IsSome, IfSome};
-ghost use Rattle.tick_time.specs.Moment.{end_ticks, IsMomentTicks};
+ghost use Rattle.std.specs.Prelude.{◌≡◌, ◌<◌, ◌≤◌, ◌↔◌, pos, IsSome, IfSome};
+ghost use Rattle.tick_time.specs.Moment.{end_ticks, IsMomentTicks, before_end, moment_below_limit};
 
 use std::marker::Model;
 
@@ -31,8 +31,6 @@ impl Model for Moment {
 }
 
 impl Moment {
-    ghost use Rattle.tick_time.specs.MomentReading.{moment_below_limit};
-
     /// The moment 0, the start of 1970.
     pub fn zero() -> Moment
         ensures { result ≡ 0 }
@@ -77,6 +75,14 @@ impl Moment {
         ensures in_range { result ≤ end_ticks }
     {
         self.ticks
+    }
+
+    // The ticks, where `END` counts as the moment before it.
+    pub(crate) fn count_before_end(self) -> u64
+        ensures value { result ≡ before_end self }
+        ensures in_range { result < end_ticks }
+    {
+        self.ticks.min(END as u64 - 1)
     }
 
     /// The moment of a count within the range.

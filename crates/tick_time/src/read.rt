@@ -7,7 +7,7 @@ use crate::civil_date::CivilDate;
 use crate::digits::{is_pair_below, pair_value};
 use crate::moment::Moment;
 use crate::read_time::read_time;
-use crate::unit::DAY;
+use crate::ticks::DAY;
 
 // YYYY-MM-DD: the date that it names, and what stands behind it.
 fn read_date(text: &[u8]) -> Option<(CivilDate, &[u8])>

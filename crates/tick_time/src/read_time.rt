@@ -6,7 +6,7 @@ ghost use Rattle.tick_time.specs.Ticks.{day_ticks, minute_ticks, second_ticks};
 ghost use Rattle.tick_time.specs.MomentReading.{is_digit, is_separator, clock_at_front, fraction_ticks, fraction_at_front, second_at_front, seconds_at_front, offset_of, time_of};
 
 use crate::digits::{digit_value, is_digit, is_pair_below, pair_value};
-use crate::unit::{HOUR, MINUTE, SECOND};
+use crate::ticks::{HOUR, MINUTE, SECOND};
 
 fn is_separator(byte: u8) -> bool
     ensures { result ≡ is_separator byte }

@@ -1,13 +1,36 @@
-//! The lengths of days and their parts, in ticks of 100 ns.
+//! `Unit`, a unit of lengths, and the words that name it.
 
-/// A day in ticks.
-pub const DAY: u64 = 864_000_000_000;
+ghost use Rattle.std.specs.Prelude.{◌≡◌, ◌≤◌, pos};
+ghost use Rattle.tick_time.specs.Ticks.{day_ticks};
 
-/// An hour in ticks.
-pub const HOUR: u64 = 36_000_000_000;
+use crate::ticks::{DAY, HOUR, MICROSECOND, MILLISECOND, MINUTE, SECOND};
 
-/// A minute in ticks.
-pub const MINUTE: u64 = 600_000_000;
+/// A unit of lengths.
+#[derive(Clone, Copy, Debug, PartialEq, Eq)]
+pub enum Unit {
+    Day,
+    Hour,
+    Minute,
+    Second,
+    Millisecond,
+    Microsecond,
+}
 
-/// A second in ticks.
-pub const SECOND: u64 = 10_000_000;
+impl Unit {
+    ghost use Rattle.tick_time.specs.Unit.{unit_ticks};
+
+    // The ticks of a unit.
+    pub(crate) fn ticks(self) -> i64
+        ensures { result ≡ pos (unit_ticks self) }
+    {
+        let ticks = match self {
+            Unit::Day => DAY,
+            Unit::Hour => HOUR,
+            Unit::Minute => MINUTE,
+            Unit::Second => SECOND,
+            Unit::Millisecond => MILLISECOND,
+            Unit::Microsecond => MICROSECOND,
+        };
+        ticks as i64
+    }
+}

@@ -4,8 +4,8 @@ ghost use Rattle.std.specs.Prelude.{◌≡◌, ◌<◌, ◌+◌, ◌/◌, ◌%�
 ghost use Rattle.tick_time.specs.MomentText.{moment_text, digit};
 
 use crate::civil_date::CivilDate;
-use crate::moment::{END, Moment};
-use crate::unit::{DAY, HOUR, MINUTE, SECOND};
+use crate::moment::Moment;
+use crate::ticks::{DAY, HOUR, MINUTE, SECOND};
 
 // The digit of a number at a place, which is a power of ten.
 fn digit(n: u64, place: u64) -> u8
@@ -20,8 +20,8 @@ fn digit(n: u64, place: u64) -> u8
 pub fn write_moment(m: Moment) -> [u8; 28]
     ensures { result ≡ moment_text m }
 {
-    let ticks = m.count().min(END as u64 - 1);
-    let date = CivilDate::of_number((ticks / DAY) as u32);
+    let ticks = m.count_before_end();
+    let date = CivilDate::of_ticks(ticks);
     let year = date.year as u64;
     let month = date.month as u64;
     let day = date.day as u64;
