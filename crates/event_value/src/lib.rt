@@ -6,8 +6,12 @@
 #![tactic(auto)]
 
 mod copies;
+mod expr;
+mod expr_copies;
 mod kind;
 mod laws;
+mod plan;
+mod plan_copies;
 mod policy;
 mod print;
 mod print_value;
@@ -19,8 +23,10 @@ mod text;
 mod value;
 
 pub use copies::Copies;
+pub use expr::{Branch, Cond, Expr, Op, Rel};
 pub use kind::{Column, Columns, Format, Kind};
 pub use laws::order_is_total;
+pub use plan::{AggKind, Aggregate, Output, Plan, Step, StreamUse};
 pub use policy::Policy;
 pub use print::{print_row, push_dropped, push_number, push_row};
 pub use print_value::{push_text, push_value};
