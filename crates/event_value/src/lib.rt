@@ -5,11 +5,15 @@
 //! It reads no file and judges no record.
 #![tactic(auto)]
 
+#[cfg(test)]
+mod cast_tests;
+mod casts;
 mod copies;
 mod expr;
 mod expr_copies;
 mod kind;
 mod laws;
+mod numbers;
 mod plan;
 mod plan_copies;
 mod policy;
@@ -22,10 +26,12 @@ mod tests;
 mod text;
 mod value;
 
+pub use casts::cast;
 pub use copies::Copies;
 pub use expr::{Branch, Cond, Expr, Op, Rel};
 pub use kind::{Column, Columns, Format, Kind};
 pub use laws::order_is_total;
+pub use numbers::{fixed_value, whole_value};
 pub use plan::{AggKind, Aggregate, Output, Plan, Step, StreamUse};
 pub use policy::Policy;
 pub use print::{print_row, push_dropped, push_number, push_row};
