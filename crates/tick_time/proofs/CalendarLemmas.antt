@@ -77,6 +77,9 @@ days_before_year-next y = let e : y + 1 ≡ suc y = omega arith in rw e
 days_in_month_first : (y m : ℕ) → 1 ≤ days_in_month y m
 days_in_month_first y m = grind arith
 
+pub days_in_month_last : (y m : ℕ) → days_in_month y m ≤ 31
+days_in_month_last y m = grind arith
+
 -- the date of the day after is a date, and has the next number
 pub record IsAfter (d e : CivilDate) : Type 0 where
   pub date : IsDate e
@@ -207,6 +210,13 @@ date_number-none d y m n year month day low none =
 -- the date of a number is there
 pub date_of_number_exists : (n : ℕ) → is_date (date_of_number n) ≡ true
 date_of_number_exists n = is_date-IsDate (date_of_number n) (date_of_number_is n).date
+
+-- the number of the date of a number
+pub date_number-date_of_number : (n : ℕ) → date_number (date_of_number n) ≡ Some (pos n)
+unfolding date_number
+date_number-date_of_number n =
+    let is = date_of_number_is n in
+    rw (date_of_number_exists n) (ap Some (omega (arith, signed_arith, is.number, days_before-epoch)))
 
 -- the number of a date that is there
 pub date_number-is : (d : CivilDate) (z : ℤ) → is_date d ≡ true → Some z ≡ date_number d → z ≡ day_number d

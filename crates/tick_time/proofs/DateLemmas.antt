@@ -1,11 +1,11 @@
 -- Months out of the range of moments have no moment.
-use Rattle.std.proofs.Common.{◌≡◌, ℕ, ◌+◌, ◌-◌, ◌*◌, ◌/◌, ◌%◌, ◌<◌, ◌≤◌, nat_lt, refl, sym, ⊎_elim, arith, Option, Some, None, ℤ, pos, negsuc, ◌+ℤ◌, ◌-ℤ◌, ◌*ℤ◌, ◌<ℤ◌, ◌≤ℤ◌}
+use Rattle.std.proofs.Common.{◌≡◌, ℕ, ◌/◌, ◌%◌, ◌<◌, ◌≤◌, refl, sym, ⊎_elim, arith, None, ℤ, pos, negsuc, ◌+ℤ◌, ◌*ℤ◌, ◌<ℤ◌, ◌≤ℤ◌}
 use Rattle.std.proofs.lemmas.Bool.{cases_lt}
-use Rattle.std.proofs.lemmas.Int.{ints, by_lt_z}
+use Rattle.std.proofs.lemmas.Int.{ints}
 use Rattle.jiff_core.proofs.SignedLemmas.{signed_arith}
 use Rattle.tick_time.specs.Moment.{end_ticks, limit_ticks, moment_below_limit}
 use Rattle.tick_time.specs.Ticks.{day_ticks}
-use Rattle.tick_time.specs.Calendar.{days_before, day_number, date_of_number, date_of}
+use Rattle.tick_time.specs.Calendar.{day_number, date_of}
 use Rattle.tick_time.specs.DateArithmetic.{month_index, end_month, date_in_month, moment_in_month, moment_in_signed_month}
 use Rattle.tick_time.proofs.CalendarLemmas.{days_before-epoch, date_of_number_is, year_before_end, days_before_from_end}
 

@@ -1,5 +1,5 @@
--- The Gregorian calendar: the lengths of years and months, the number of a date, the date of a number.
-use Rattle.std.specs.Prelude.{ℕ, zero, suc, ◌+◌, ◌-◌, ◌/◌, ◌%◌, Bool, not, ◌==◌, ◌&&◌, ◌||◌, nat_lt, nat_le, if◌then◌else◌, Option, Some, None, ℤ, pos, ◌-ℤ◌}
+-- The Gregorian calendar: lengths of years and months, the number of a date, the date of a number.
+use Rattle.std.specs.Prelude.{ℕ, zero, suc, ◌+◌, ◌-◌, ◌/◌, ◌%◌, ◌<◌, Bool, not, ◌==◌, ◌&&◌, ◌||◌, nat_lt, nat_le, if◌then◌else◌, Option, Some, None, ℤ, pos, ◌-ℤ◌}
 use Rattle.tick_time.specs.Ticks.{day_ticks}
 use Rattle.tick_time.specs.declared.civil_date.CivilDate.{CivilDate}
 
@@ -7,6 +7,7 @@ use Rattle.tick_time.specs.declared.civil_date.CivilDate.{CivilDate}
 abbrev pub is_leap_year : ℕ → Bool
 is_leap_year y = (y % 4 == 0) && (not (y % 100 == 0) || (y % 400 == 0))
 
+-- the days of a year
 abbrev pub days_in_year : ℕ → ℕ
 days_in_year y = if is_leap_year y then 366 else 365
 
@@ -41,7 +42,16 @@ day_number d = pos (days_before d) -ℤ pos (days_before epoch)
 -- the calendar has this date
 abbrev pub is_date : CivilDate → Bool
 is_date d =
-    nat_le 1 d.month && nat_le d.month 12 && nat_le 1 d.day && nat_le d.day (days_in_month d.year d.month)
+    nat_le 1 d.month && nat_le d.month 12
+    && nat_le 1 d.day && nat_le d.day (days_in_month d.year d.month)
+
+-- the first year that four digits do not name
+abbrev pub end_year : ℕ
+end_year = 10_000
+
+-- the year has at most four digits, the month and the day at most two
+abbrev pub HasDigits : CivilDate → Type 0
+HasDigits d = (d.year < end_year) × (d.month < 100) × (d.day < 100)
 
 -- the number of a date, where the calendar has it
 unfoldable pub date_number : CivilDate → Option ℤ
@@ -50,7 +60,8 @@ date_number d = if is_date d then Some (day_number d) else None
 -- the date of the day after
 abbrev pub next_date : CivilDate → CivilDate
 next_date d =
-    if nat_lt d.day (days_in_month d.year d.month) then record { year = d.year; month = d.month; day = d.day + 1 }
+    if nat_lt d.day (days_in_month d.year d.month)
+    then record { year = d.year; month = d.month; day = d.day + 1 }
     else (if nat_lt d.month 12 then record { year = d.year; month = d.month + 1; day = 1 }
     else record { year = d.year + 1; month = 1; day = 1 })
 

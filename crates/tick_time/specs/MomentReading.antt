@@ -1,11 +1,12 @@
--- What the text of a moment means: a date, and behind it nothing, or a time of day with a zone or none.
-use Rattle.std.specs.Prelude.{ℕ, ◌+◌, ◌-◌, ◌*◌, ◌/◌, ◌&&◌, ◌||◌, ◌==◌, nat_le, nat_lt, Bool, List, [], ◌∷◌, length, drop, take_while, Option, Some, None, option_map, option_and_then, if◌then◌else◌, ℤ, pos, negsuc, neg_ℤ, ◌+ℤ◌, ◌-ℤ◌, ◌*ℤ◌}
+-- What the text of a moment means: a date, and behind it nothing, or a time of day with its zone.
+use Rattle.std.specs.Prelude.{ℕ, ◌+◌, ◌-◌, ◌*◌, ◌/◌, ◌&&◌, ◌||◌, ◌==◌, nat_le, nat_lt, Bool, List, [], ◌∷◌, length, drop, take_while, Option, Some, None, option_map, option_and_then, if◌then◌else◌, ℤ, pos, neg_ℤ, ◌+ℤ◌, ◌-ℤ◌, ◌*ℤ◌}
 use Rattle.tick_time.specs.Moment.{moment_below_limit}
 use Rattle.tick_time.specs.Ticks.{day_ticks, hour_ticks, minute_ticks, second_ticks}
 use Prim.Native.Char.{code}
 use Rattle.tick_time.specs.declared.civil_date.CivilDate.{CivilDate}
 use Rattle.tick_time.specs.Calendar.{date_number}
 
+-- a decimal digit
 abbrev pub is_digit : ℕ → Bool
 is_digit b = nat_le (code "0") b && nat_le b (code "9")
 
@@ -23,24 +24,30 @@ is_pair_below n a b = is_digit a && is_digit b && nat_lt (pair_value a b) n
 
 -- YYYY-MM-DD: the date that it names, and what stands behind it
 abbrev pub date_at_front : List ℕ → Option (CivilDate × List ℕ)
-date_at_front (a ∷ b ∷ c ∷ d ∷ h ∷ e ∷ f ∷ i ∷ g ∷ j ∷ rest) =
-    if is_pair_below 100 a b && is_pair_below 100 c d && (h == code "-") && is_pair_below 100 e f && (i == code "-") && is_pair_below 100 g j
-    then Some (record { year = pair_value a b * 100 + pair_value c d; month = pair_value e f; day = pair_value g j }, rest)
-    else None
+date_at_front (a ∷ b ∷ c ∷ d ∷ p ∷ e ∷ f ∷ q ∷ g ∷ h ∷ rest) =
+    let date : CivilDate = record {
+      year = pair_value a b * 100 + pair_value c d;
+      month = pair_value e f;
+      day = pair_value g h;
+    } in
+    if is_pair_below 100 a b && is_pair_below 100 c d && (p == code "-")
+    && is_pair_below 100 e f && (q == code "-") && is_pair_below 100 g h
+    then Some (date, rest) else None
 date_at_front _ = None
 
+-- what stands between a date and a time
 abbrev pub is_separator : ℕ → Bool
 is_separator b = (b == code "T") || (b == code "t") || (b == code " ")
 
 -- a separator and HH:MM: the ticks since midnight, and what stands behind it
 abbrev pub clock_at_front : List ℕ → Option (ℕ × List ℕ)
-clock_at_front (s ∷ a ∷ b ∷ c ∷ d ∷ e ∷ rest) =
-    if is_separator s && is_pair_below 24 a b && (c == code ":") && is_pair_below 60 d e
-    then Some (pair_value a b * hour_ticks + pair_value d e * minute_ticks, rest)
+clock_at_front (s ∷ a ∷ b ∷ p ∷ c ∷ d ∷ rest) =
+    if is_separator s && is_pair_below 24 a b && (p == code ":") && is_pair_below 60 c d
+    then Some (pair_value a b * hour_ticks + pair_value c d * minute_ticks, rest)
     else None
 clock_at_front _ = None
 
--- the ticks of a fraction's digits, the first of which counts so many; a digit past the last tick counts 0
+-- the ticks of a fraction's digits, of which the first counts `place`: one below a tick counts 0
 abbrev pub fraction_ticks : List ℕ → ℕ → ℕ
 fraction_ticks [] place = 0
 fraction_ticks (d ∷ ds) place = digit_value d * place + fraction_ticks ds (place / 10)
@@ -59,7 +66,8 @@ fraction_at_front (c ∷ rest) =
 abbrev pub second_at_front : List ℕ → Option (ℕ × List ℕ)
 second_at_front (a ∷ b ∷ rest) =
     if is_pair_below 60 a b
-    then option_map (λ (f : ℕ × List ℕ). (pair_value a b * second_ticks + f.0, f.1)) (fraction_at_front rest)
+    then option_map (λ (f : ℕ × List ℕ). (pair_value a b * second_ticks + f.0, f.1))
+    (fraction_at_front rest)
     else None
 second_at_front _ = None
 
@@ -72,9 +80,10 @@ seconds_at_front (c ∷ rest) = if c == code ":" then second_at_front rest else 
 abbrev pub offset_of : List ℕ → Option ℤ
 offset_of [] = Some (pos 0)
 offset_of (z ∷ []) = if (z == code "Z") || (z == code "z") then Some (pos 0) else None
-offset_of (s ∷ a ∷ b ∷ c ∷ d ∷ e ∷ []) =
-    let ticks = pair_value a b * hour_ticks + pair_value d e * minute_ticks in
-    if ((s == code "+") || (s == code "-")) && is_pair_below 24 a b && (c == code ":") && is_pair_below 60 d e
+offset_of (s ∷ a ∷ b ∷ p ∷ c ∷ d ∷ []) =
+    let ticks = pair_value a b * hour_ticks + pair_value c d * minute_ticks in
+    if ((s == code "+") || (s == code "-"))
+    && is_pair_below 24 a b && (p == code ":") && is_pair_below 60 c d
     then Some (if s == code "+" then pos ticks else neg_ℤ (pos ticks))
     else None
 offset_of _ = None

@@ -15,12 +15,14 @@ part_of_unit units.Second = Second
 part_of_unit units.Millisecond = Millisecond
 part_of_unit units.Microsecond = Microsecond
 
+-- the names of the parts that no unit counts
 abbrev pub is_year_name : List ℕ → Bool
 is_year_name word =
     is_name (codes "year") word || is_name (codes "yyyy") word || is_name (codes "yy") word
 
 abbrev pub is_month_name : List ℕ → Bool
-is_month_name word = is_name (codes "month") word || is_name (codes "mm") word || is_name (codes "m") word
+is_month_name word =
+    is_name (codes "month") word || is_name (codes "mm") word || is_name (codes "m") word
 
 -- the part that a word names
 unfoldable pub part_named : List ℕ → Option Part

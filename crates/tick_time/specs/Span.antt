@@ -4,9 +4,11 @@ use Rattle.tick_time.specs.Ticks.{day_ticks}
 use Rattle.tick_time.specs.Unit.{unit_ticks}
 use Rattle.tick_time.specs.declared.unit.Unit.{Unit}
 
+-- seven days
 abbrev pub max_span_ticks : ℕ
 max_span_ticks = 7 * day_ticks
 
+-- a length of at most seven days
 abbrev pub IsSpanTicks : ℤ → Type 0
 IsSpanTicks z = unsigned_abs z ≤ max_span_ticks
 

@@ -18,8 +18,10 @@ unit_ticks Microsecond = microsecond_ticks
 abbrev pub is_name : List ℕ → List ℕ → Bool
 is_name name word = str_eq_ignore_ascii_case word name
 
+-- the names of each unit
 abbrev pub is_day_name : List ℕ → Bool
-is_day_name word = is_name (codes "day") word || is_name (codes "dd") word || is_name (codes "d") word
+is_day_name word =
+    is_name (codes "day") word || is_name (codes "dd") word || is_name (codes "d") word
 
 abbrev pub is_hour_name : List ℕ → Bool
 is_hour_name word = is_name (codes "hour") word || is_name (codes "hh") word

@@ -18,7 +18,7 @@ pub struct CivilDate {
 }
 
 impl CivilDate {
-    ghost use Rattle.tick_time.specs.Calendar.{is_date, date_number, date_of_number, date_of};
+    ghost use Rattle.tick_time.specs.Calendar.{HasDigits, is_date, date_number, date_of_number, date_of};
     ghost use Rattle.tick_time.specs.DateArithmetic.{month_index, date_in_month, end_month};
 
     /// The date of a moment of so many ticks.
@@ -46,11 +46,10 @@ impl CivilDate {
         }
     }
 
-    /// The days since 1970-01-01, below 0 before it; `None` exactly where the calendar has no such date.
+    /// The days since 1970-01-01, below 0 before it; `None` exactly where the calendar has no such
+    /// date.
     pub fn number(self) -> Option<i64>
-        requires year { self.year < 10000 }
-        requires month { self.month < 100 }
-        requires day { self.day < 100 }
+        requires { HasDigits self }
         ensures value { result ≡ date_number self }
         ensures bound { IfSome result IsEpochDay }
     {
@@ -68,13 +67,13 @@ impl CivilDate {
         self.year as u64 * 12 + (self.month as u64 - 1)
     }
 
-    /// The date in a month at a day, or at the month's last day; months count from the first of the year 0.
+    /// The date in a month at a day, or at the month's last day; month 0 is the first of the year 0.
     pub fn in_month(index: u64, day: u8) -> CivilDate
         requires month { index < end_month }
         requires day { 1 ≤ day }
         ensures value { result ≡ date_in_month index day }
         ensures exists { IsTrue (is_date result) }
-        ensures year { result.year < 10000 }
+        ensures digits { HasDigits result }
     {
         let year = (index / 12) as u16;
         let month = (index % 12) as u8 + 1;

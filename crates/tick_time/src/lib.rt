@@ -1,12 +1,17 @@
-//! Moments: counts of ticks of 100 ns since 1970-01-01T00:00:00Z, and their texts.
-//! `Moment` is seen by contracts as that count; `Memory` is the one error of calls that take memory.
-//! `read_moment` and `write_moment` read and write texts; their values are `moment_of` and `moment_text`.
-//! The meaning: specs/Moment.antt, specs/Calendar.antt, specs/MomentReading.antt, specs/MomentText.antt.
+//! Moments: counts of ticks of 100 ns since 1970-01-01T00:00:00Z, their texts and their calendar.
+//! `Moment` is seen by contracts as that count, `Span` as a signed one; no call takes memory, and
+//! `Memory` is the refusal of the calls above that do.
+//! `read_moment` is `moment_of` its text and `write_moment` is `moment_text` of its moment; laws.rt
+//! says that `moment_of` is the grammar and that what is written is read.
+//! The meaning: specs/Calendar.antt, specs/MomentText.antt, specs/MomentForms.antt (the grammar),
+//! specs/MomentReading.antt, specs/DateArithmetic.antt; that of words: specs/Unit.antt, specs/Part.antt.
+//! The days are jiff's: src/civil_date.rt joins its calendar to ours.
 #![tactic(auto)]
 
 mod civil_date;
-mod dates;
+mod date_arithmetic;
 mod digits;
+mod laws;
 mod memory;
 mod moment;
 mod names;
@@ -20,7 +25,8 @@ mod ticks;
 mod unit;
 mod write;
 
-pub use dates::{date_add, date_diff, date_part};
+pub use date_arithmetic::{date_add, date_diff, date_part};
+pub use laws::{dates_have_their_numbers, reading_is_the_grammar, written_moments_are_read};
 pub use memory::Memory;
 pub use moment::{END, LIMIT, Moment};
 pub use names::{part_of, unit_of};

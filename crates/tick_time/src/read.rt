@@ -1,6 +1,7 @@
 //! The moment that a text names: a date, and behind it nothing, or a time.
 
 ghost use Rattle.std.specs.Prelude.{◌≡◌, ◌<◌, ◌≤◌, None, Some, IfSome, MatchOption};
+ghost use Rattle.tick_time.specs.Calendar.{HasDigits};
 ghost use Rattle.tick_time.specs.MomentReading.{moment_of, date_at_front};
 
 use crate::civil_date::CivilDate;
@@ -13,23 +14,21 @@ use crate::ticks::DAY;
 fn read_date(text: &[u8]) -> Option<(CivilDate, &[u8])>
     ensures value { MatchOption result (date_at_front text.now ≡ None)
         (λ r. date_at_front text.now ≡ Some (r.0, r.1.now)) }
-    ensures year { IfSome result (λ r. r.0.year < 10000) }
-    ensures month { IfSome result (λ r. r.0.month < 100) }
-    ensures day { IfSome result (λ r. r.0.day < 100) }
+    ensures digits { IfSome result (λ r. HasDigits r.0) }
 {
     match text {
-        [a, b, c, d, h, e, f, i, g, j, rest @ ..] => {
+        [a, b, c, d, p, e, f, q, g, h, rest @ ..] => {
             if is_pair_below(100, *a, *b)
                 && is_pair_below(100, *c, *d)
-                && *h == b'-'
+                && *p == b'-'
                 && is_pair_below(100, *e, *f)
-                && *i == b'-'
-                && is_pair_below(100, *g, *j)
+                && *q == b'-'
+                && is_pair_below(100, *g, *h)
             {
                 let date = CivilDate {
                     year: pair_value(*a, *b) as u16 * 100 + pair_value(*c, *d) as u16,
                     month: pair_value(*e, *f) as u8,
-                    day: pair_value(*g, *j) as u8,
+                    day: pair_value(*g, *h) as u8,
                 };
                 Some((date, rest))
             } else {

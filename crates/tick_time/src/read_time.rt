@@ -21,13 +21,13 @@ fn read_clock(text: &[u8]) -> Option<(u64, &[u8])>
     ensures bound { IfSome result (λ r. r.0 < day_ticks) }
 {
     match text {
-        [s, a, b, c, d, e, rest @ ..] => {
+        [s, a, b, p, c, d, rest @ ..] => {
             if is_separator(*s)
                 && is_pair_below(24, *a, *b)
-                && *c == b':'
-                && is_pair_below(60, *d, *e)
+                && *p == b':'
+                && is_pair_below(60, *c, *d)
             {
-                let ticks = pair_value(*a, *b) * HOUR + pair_value(*d, *e) * MINUTE;
+                let ticks = pair_value(*a, *b) * HOUR + pair_value(*c, *d) * MINUTE;
                 Some((ticks, rest))
             } else {
                 None
@@ -132,13 +132,13 @@ fn read_zone(text: &[u8]) -> Option<i64>
                 None
             }
         }
-        [s, a, b, c, d, e] => {
+        [s, a, b, p, c, d] => {
             if (*s == b'+' || *s == b'-')
                 && is_pair_below(24, *a, *b)
-                && *c == b':'
-                && is_pair_below(60, *d, *e)
+                && *p == b':'
+                && is_pair_below(60, *c, *d)
             {
-                let ticks = (pair_value(*a, *b) * HOUR + pair_value(*d, *e) * MINUTE) as i64;
+                let ticks = (pair_value(*a, *b) * HOUR + pair_value(*c, *d) * MINUTE) as i64;
                 Some(if *s == b'+' { ticks } else { -ticks })
             } else {
                 None

@@ -1,5 +1,6 @@
-//! Tests on settled rows: texts in tests/texts.rt, words and lengths in tests/names.rt, dates in tests/dates.rt.
+//! Tests on settled rows. A row on a text goes to tests/texts.rt, on a word or a length to
+//! tests/names.rt, on a sum, a boundary count or a field to tests/date_arithmetic.rt.
 
-mod dates;
+mod date_arithmetic;
 mod names;
 mod texts;

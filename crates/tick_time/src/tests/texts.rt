@@ -1,4 +1,4 @@
-//! Texts that are read and texts that are refused. The ticks are those of `date -u`, with the fraction by hand.
+//! Texts that are read, refused and written. Ticks are those of `date -u`, with fractions by hand.
 
 use crate::{END, LIMIT, Moment, read_moment, write_moment};
 

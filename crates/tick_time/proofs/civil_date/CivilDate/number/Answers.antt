@@ -11,8 +11,8 @@ returns-in-Ok-clause-value c =
     let fits32 : FitsSigned w32 c.to_unix_epoch_day.result = omega (arith, ints) in
     let fits64 : FitsSigned w64 c.to_unix_epoch_day.result = omega (arith, ints) in
     rw (to_z-of_z w32 c.to_unix_epoch_day.result fits32, to_z-of_z w64 c.to_unix_epoch_day.result fits64, c.to_unix_epoch_day.ensures.value, c.to_plain.ensures)
-    (date_number-some c.args.self c.in-Ok.date (parts.0 ∙ omega (arith, ints, c.requires.year)) (omega (arith, ints, parts.1, c.requires.month)) (omega (arith, ints, parts.2, c.requires.day)))
+    (date_number-some c.args.self c.in-Ok.date (parts.0 ∙ omega (arith, ints, c.requires.0)) (omega (arith, ints, parts.1, c.requires.1)) (omega (arith, ints, parts.2, c.requires.2)))
 
 pub returns-in-Err-clause-value : goal.returns-in-Err-clause-value
 returns-in-Err-clause-value c =
-    date_number-none c.args.self _ _ _ (omega (arith, ints, c.requires.year)) (omega (arith, ints, c.requires.month)) (omega (arith, ints, c.requires.day)) c.requires.year (λ d. false≢true (c.in-Err.ensures.succeeds.1 d))
+    date_number-none c.args.self _ _ _ (omega (arith, ints, c.requires.0)) (omega (arith, ints, c.requires.1)) (omega (arith, ints, c.requires.2)) c.requires.0 (λ d. false≢true (c.in-Err.ensures.succeeds.1 d))

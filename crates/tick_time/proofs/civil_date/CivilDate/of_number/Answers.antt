@@ -1,4 +1,4 @@
-use Rattle.std.proofs.Common.{◌≡◌, ◌∙◌, arith, pos, FitsSigned, w16, ap}
+use Rattle.std.proofs.Common.{◌∙◌, arith, FitsSigned, w16, ap}
 use Rattle.std.proofs.lemmas.Int.{ints, to_z-of_z}
 use Rattle.tick_time.specs.Calendar.{is_date}
 use Rattle.tick_time.proofs.CalendarLemmas.{date_of_number-jiff, date_of_number_exists, date_of_parts}

@@ -21,7 +21,8 @@ fn moment_in_month(index: u64, ticks: u64) -> Option<Moment>
     ensures { result ≡ moment_in_month index ticks }
 {
     let day = CivilDate::of_ticks(ticks).day;
-    let number = CivilDate::in_month(index, day).number()?;
+    let date = CivilDate::in_month(index, day);
+    let number = date.number()?;
     Moment::below_limit(number * DAY as i64 + (ticks % DAY) as i64)
 }
 

@@ -1,7 +1,7 @@
-use Rattle.std.proofs.Common.{◌≡◌, ◌∙◌, arith, pos}
+use Rattle.std.proofs.Common.{◌∙◌, arith}
 use Rattle.std.proofs.lemmas.Int.{ints}
 use Rattle.tick_time.proofs.DateLemmas.{signed_month-none, month_index_before_end}
-use Rattle.tick_time.proofs.dates.add_years.Goals as goal
+use Rattle.tick_time.proofs.date_arithmetic.add_years.Goals as goal
 
 pub returns-in_err-checked_mul : goal.returns-in_err-checked_mul
 returns-in_err-checked_mul c =

@@ -1,9 +1,9 @@
-use Rattle.std.proofs.Common.{◌≡◌, ◌∙◌, ap, arith, pos}
+use Rattle.std.proofs.Common.{◌∙◌, ap, arith}
 use Rattle.std.proofs.lemmas.Int.{ints}
 use Rattle.tick_time.specs.DateArithmetic.{month_index}
 use Rattle.tick_time.proofs.DateLemmas.{signed_month-none}
-use Rattle.tick_time.proofs.dates.add_months.Goals as goal
-use Rattle.tick_time.proofs.dates.add_months.Goals.{then-index-lt0-via-then-index-lt0, then-index-lt0-via-else-index-lt0+then-index-ge-END_MONTH}
+use Rattle.tick_time.proofs.date_arithmetic.add_months.Goals as goal
+use Rattle.tick_time.proofs.date_arithmetic.add_months.Goals.{then-index-lt0-via-then-index-lt0, then-index-lt0-via-else-index-lt0+then-index-ge-END_MONTH}
 
 pub returns-in_err-index : goal.returns-in_err-index
 returns-in_err-index c =
