@@ -1,0 +1,9 @@
+use Rattle.std.proofs.Common.{◌≡◌, ◌++◌, drop}
+use Rattle.std.specs.Str.{encode_utf8_all}
+use Rattle.std.specs.String.{string_bytes}
+use Rattle.expr_eval.proofs.texts.text_of.Given as goal
+
+-- what is written, and what is still to come
+abbrev pub invariant-loop-character : goal.invariant-loop-character
+invariant-loop-character l =
+    string_bytes l.text ++ encode_utf8_all (drop l.character-index l.characters) ≡ encode_utf8_all l.characters
