@@ -1,0 +1,36 @@
+//! The inputs document of a job: which streams it reads, and by which policies.
+//! `read_inputs` gives the `Inputs` that a document says, or its first cause of refusal with the key
+//! where it stands.
+//! What matters: `read_inputs`, clauses `ok` and `err`: the inputs exactly where no cause stands, and
+//! else the first one.
+//! The meaning: specs/Inputs.antt, over specs/Tables.antt (a line a key) and specs/Checks.antt (limits,
+//! names and the order of moments), in the words of specs/Readers.antt and specs/Ranges.antt.
+//! It asks for no file: job_core does.
+#![tactic(auto)]
+
+mod column;
+mod document;
+mod input_err;
+mod inputs;
+mod key;
+mod limit_check;
+mod limits;
+mod lists;
+mod members;
+mod name_check;
+mod order_check;
+mod partition;
+mod parts;
+mod policy;
+mod reading;
+mod refusals;
+mod root;
+mod shapes;
+mod source;
+#[cfg(test)]
+mod tests;
+mod texts;
+
+pub use input_err::InputErr;
+pub use inputs::{Inputs, Partition, Reference, SegmentName, SnapshotName, Stream};
+pub use reading::read_inputs;

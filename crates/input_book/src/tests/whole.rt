@@ -1,0 +1,113 @@
+//! What accepted documents give.
+
+use crate::{Inputs, SegmentName, read_inputs};
+use event_value::{Column, Copies, Format, Kind, Policy};
+use std::alloc::Global;
+use std::process::Abort;
+use std::test::Fail;
+
+const SECOND: i64 = 10_000_000;
+
+fn inputs_of(rt: &impl Abort, alloc: Global, document: &str) -> Inputs {
+    match read_inputs(alloc, document.as_bytes()) {
+        Ok(inputs) => inputs,
+        Err(refusal) => panic!(rt; "{refusal:?}"),
+    }
+}
+
+fn check_column(rt: &impl Abort, column: &Column, name: &str, kind: Kind, path: &[&str]) {
+    assert_eq!(rt; column.name.items(), name.as_bytes());
+    assert_eq!(rt; column.kind, kind, "{name}");
+    assert_eq!(rt; column.path.items().len(), path.len(), "{name}");
+    for (found, wanted) in column.path.items().iter().zip(path) {
+        assert_eq!(rt; found.items(), wanted.as_bytes(), "{name}");
+    }
+}
+
+fn check_segment(rt: &impl Abort, segment: &SegmentName, file: &str, through: i64) {
+    assert_eq!(rt; segment.file.items(), file.as_bytes());
+    assert_eq!(rt; segment.through.ticks(), through, "{file}");
+}
+
+#[test]
+fn a_document_with_every_default(rt: HostRuntime) -> Result<(), Fail> {
+    let document = "[[stream]]
+name = \"src\"
+format = \"json\"
+columns = [{name = \"a\", kind = \"bigint\"}, {name = \"b\", kind = \"nvarchar(max)\"}]
+[[stream.partition]]
+ended = true
+segments = [{file = \"a.json\", through = \"2024-01-01T00:00:01Z\"}]
+";
+    let inputs = inputs_of(&rt, rt.alloc(), document);
+    let policy = Policy {
+        late: 5 * SECOND,
+        disorder: 0,
+        adjust: true,
+        skew: 300 * SECOND,
+    };
+    assert_eq!(rt; inputs.policy, policy);
+    assert!(rt; inputs.references.items().is_empty());
+    let [stream] = inputs.streams.items() else {
+        panic!(&rt; "one stream");
+    };
+    assert_eq!(rt; stream.name.items(), b"src".as_slice());
+    assert_eq!(rt; stream.format, Format::Json);
+    let [a, b] = stream.columns.items() else {
+        panic!(&rt; "two columns");
+    };
+    check_column(&rt, a, "a", Kind::Big, &["a"]);
+    check_column(&rt, b, "b", Kind::Text, &["b"]);
+    let [partition] = stream.partitions.items() else {
+        panic!(&rt; "one partition");
+    };
+    assert!(rt; partition.ended);
+    let [segment] = partition.segments.items() else {
+        panic!(&rt; "one segment");
+    };
+    check_segment(&rt, segment, "a.json", 17_040_672_010_000_000);
+    Ok(())
+}
+
+#[test]
+fn a_document_with_every_key(rt: HostRuntime) -> Result<(), Fail> {
+    let document =
+        "policy = {late_seconds = 1, disorder_seconds = 2, action = 'drop', skew_seconds = 3}
+[[stream]]
+name = 's'
+format = 'csv'
+delimiter = ';'
+columns = [{name = 'a', kind = 'bit', path = ['x', '']}, {name = 'b', kind = 'fixed'}, {name = 'c', kind = 'datetime'}]
+[[stream.partition]]
+[[stream.partition]]
+segments = [{file = 'f', through = '1970-01-01T00:00:01Z'}, {file = 'g', through = '2999-12-31T23:59:59.9999999Z'}]
+";
+    let inputs = inputs_of(&rt, rt.alloc(), document).copy()?;
+    let policy = Policy {
+        late: SECOND,
+        disorder: 2 * SECOND,
+        adjust: false,
+        skew: 3 * SECOND,
+    };
+    assert_eq!(rt; inputs.policy, policy);
+    let [stream] = inputs.streams.items() else {
+        panic!(&rt; "one stream");
+    };
+    assert_eq!(rt; stream.format, Format::Csv(b';'));
+    let [a, b, c] = stream.columns.items() else {
+        panic!(&rt; "three columns");
+    };
+    check_column(&rt, a, "a", Kind::Bit, &["x", ""]);
+    check_column(&rt, b, "b", Kind::Fixed, &["b"]);
+    check_column(&rt, c, "c", Kind::Moment, &["c"]);
+    let [first, second] = stream.partitions.items() else {
+        panic!(&rt; "two partitions");
+    };
+    assert!(rt; !first.ended && first.segments.items().is_empty());
+    let [f, g] = second.segments.items() else {
+        panic!(&rt; "two segments");
+    };
+    check_segment(&rt, f, "f", SECOND);
+    check_segment(&rt, g, "g", 325_036_799_999_999_999);
+    Ok(())
+}
