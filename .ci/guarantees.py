@@ -50,7 +50,7 @@ def meaning(line, names):
     text = path.read_text() if path.is_file() else ""
     check(text, line, f"no file {names[0]}")
     for name in names[1:]:
-        pattern = rf"^(abbrev |unfoldable )?pub (record |data )?{re.escape(name)}\b"
+        pattern = rf"^ *(abbrev |unfoldable )?pub (record |data )?{re.escape(name)}\b"
         check(re.search(pattern, text, re.M), line, f"no definition {name} in {names[0]}")
 
 
