@@ -37,17 +37,20 @@ fn words_of(alloc: Global, words: &[&str]) -> Result<Seq<Text>, Memory> {
     Ok(texts)
 }
 
-/// Runs the words over the two files, and gives the status with what was written.
-fn run(
+/// Whether the words over the two files end with this status, and this is what was written.
+fn ends(
     alloc: Global,
     words: &[&str],
     query: &[u8],
     records: &[u8],
-) -> Result<(Status, Text), Memory> {
+    status: Status,
+    written: &[u8],
+) -> Result<bool, Memory> {
     let mut files = files_of(alloc, query, records)?;
+    let words = words_of(alloc, words)?;
     let mut out = MemSink::of(alloc);
-    let status = top(alloc, words_of(alloc, words)?.items(), &mut files, &mut out);
-    Ok((status, Text::of(alloc, out.bytes())?))
+    let found = top(alloc, words.items(), &mut files, &mut out);
+    Ok(found == status && out.bytes() == written)
 }
 
 /// The number of a sink's first call.
@@ -59,10 +62,7 @@ const WORDS: [&str; 4] = ["-", "preview", "q.txt", "a.json"];
 
 #[test]
 fn the_first_example_prints_its_rows_and_its_drop(rt: HostRuntime) -> Result<(), Fail> {
-    let (status, written) = run(rt.alloc(), &WORDS, QUERY, RECORDS)?;
-    assert_eq!(rt; status, Status::Done);
-    assert_eq!(rt; written.items(), PREVIEW);
-    assert_eq!(rt; status.number(), 0);
+    assert!(rt; ends(rt.alloc(), &WORDS, QUERY, RECORDS, Status::Done, PREVIEW)?);
     Ok(())
 }
 
@@ -93,12 +93,36 @@ fn a_query_is_refused_at_its_place(rt: HostRuntime) -> Result<(), Fail> {
         ),
     ];
     for (query, line) in rows {
-        let (status, written) = run(rt.alloc(), &WORDS, query, RECORDS)?;
-        assert_eq!(rt; status, Status::Refused);
-        assert_eq!(rt; written.items(), line.as_bytes());
-        assert_eq!(rt; status.number(), 3);
+        let line = line.as_bytes();
+        assert!(rt; ends(rt.alloc(), &WORDS, query, RECORDS, Status::Refused, line)?);
     }
     Ok(())
+}
+
+/// The preview of one line: its row, or the rule that drops it, or neither.
+fn preview_of(alloc: Global, row: &str, rule: &str) -> Result<Text, Memory> {
+    let mut text = Text::of(alloc, b"output out\n")?;
+    text.extend(row.as_bytes())?;
+    text.extend(b"drops\n")?;
+    if !rule.is_empty() {
+        text.extend(b"{\"input\":\"src\",\"partition\":0,\"segment\":0,\"index\":0,\"rule\":\"")?;
+        text.extend(rule.as_bytes())?;
+        text.extend(b"\"}\n")?;
+    }
+    Ok(text)
+}
+
+/// Whether the preview of these records is this row, or a drop by this rule, or neither.
+fn gives(alloc: Global, records: &[u8], row: &str, rule: &str) -> Result<bool, Memory> {
+    let expected = preview_of(alloc, row, rule)?;
+    ends(
+        alloc,
+        &WORDS,
+        QUERY,
+        records,
+        Status::Done,
+        expected.items(),
+    )
 }
 
 #[test]
@@ -121,21 +145,8 @@ fn a_record_is_dropped_by_the_first_rule_that_it_breaks(rt: HostRuntime) -> Resu
         (" \r", "", "Syntax"),
         ("", "", ""),
     ];
-    let alloc = rt.alloc();
     for (records, row, rule) in rows {
-        let (status, written) = run(alloc, &WORDS, QUERY, records.as_bytes())?;
-        let mut expected = Text::of(alloc, b"output out\n")?;
-        expected.extend(row.as_bytes())?;
-        expected.extend(b"drops\n")?;
-        if !rule.is_empty() {
-            expected.extend(
-                b"{\"input\":\"src\",\"partition\":0,\"segment\":0,\"index\":0,\"rule\":\"",
-            )?;
-            expected.extend(rule.as_bytes())?;
-            expected.extend(b"\"}\n")?;
-        }
-        assert_eq!(rt; status, Status::Done);
-        assert_eq!(rt; written.items(), expected.items());
+        assert!(rt; gives(rt.alloc(), records.as_bytes(), row, rule)?);
     }
     Ok(())
 }
@@ -148,33 +159,38 @@ fn long_line(alloc: Global, length: usize) -> Result<Vec<u8>, Memory> {
     Ok(line)
 }
 
+/// Whether the preview of one line of this many bytes is this row, or a drop by this rule.
+fn long_line_gives(alloc: Global, length: usize, row: &str, rule: &str) -> Result<bool, Memory> {
+    let line = long_line(alloc, length)?;
+    gives(alloc, line.as_slice(), row, rule)
+}
+
+/// Whether a query with blanks up to this many bytes ends with this status and text.
+fn long_query_ends(
+    alloc: Global,
+    length: usize,
+    status: Status,
+    written: &[u8],
+) -> Result<bool, Memory> {
+    let mut query = Vec::from_slice(alloc, QUERY)?;
+    query.resize(length, b' ')?;
+    ends(alloc, &WORDS, query.as_slice(), b"", status, written)
+}
+
 #[test]
 fn what_is_one_byte_above_a_limit_is_refused(rt: HostRuntime) -> Result<(), Fail> {
-    let alloc = rt.alloc();
-    let (status, written) = run(alloc, &WORDS, QUERY, &long_line(alloc, 65_536)?)?;
-    assert_eq!(rt; status, Status::Done);
-    assert_eq!(rt;
-        written.items(),
-        b"output out\n{\"a\":1,\"b\":null}\ndrops\n".as_slice()
-    );
-
-    let (_, written) = run(alloc, &WORDS, QUERY, &long_line(alloc, 65_537)?)?;
-    let long =
-        b"output out\ndrops\n{\"input\":\"src\",\"partition\":0,\"segment\":0,\"index\":0,\"rule\":\"Long\"}\n";
-    assert_eq!(rt; written.items(), long.as_slice());
-
-    let (_, written) = run(alloc, &WORDS, QUERY, &long_line(alloc, 4_194_305)?)?;
-    let too_long =
-        b"output out\ndrops\n{\"input\":\"src\",\"partition\":0,\"segment\":0,\"index\":0,\"rule\":\"SegmentTooLong\"}\n";
-    assert_eq!(rt; written.items(), too_long.as_slice());
-
-    let mut query = Vec::from_slice(alloc, QUERY)?;
-    query.resize(65_536, b' ')?;
-    assert_eq!(rt; run(alloc, &WORDS, &query, b"")?.0, Status::Done);
-    query.push(b' ')?;
-    let (status, written) = run(alloc, &WORDS, &query, b"")?;
-    assert_eq!(rt; status, Status::Refused);
-    assert_eq!(rt; written.items(), b"error 3 Query.TooLong\n".as_slice());
+    let rows = [
+        (65_536, "{\"a\":1,\"b\":null}\n", ""),
+        (65_537, "", "Long"),
+        (4_194_305, "", "SegmentTooLong"),
+    ];
+    for (length, row, rule) in rows {
+        assert!(rt; long_line_gives(rt.alloc(), length, row, rule)?);
+    }
+    let empty = b"output out\ndrops\n".as_slice();
+    assert!(rt; long_query_ends(rt.alloc(), 65_536, Status::Done, empty)?);
+    let line = b"error 3 Query.TooLong\n".as_slice();
+    assert!(rt; long_query_ends(rt.alloc(), 65_537, Status::Refused, line)?);
     Ok(())
 }
 
@@ -188,42 +204,53 @@ fn words_that_are_no_command_are_a_usage_fault(rt: HostRuntime) -> Result<(), Fa
         ["-", "Preview", "q.txt", "a.json"].as_slice(),
         ["db:x", "preview", "q.txt", "a.json"].as_slice(),
     ];
+    let line = b"error 2 Usage\n".as_slice();
     for words in rows {
-        let (status, written) = run(rt.alloc(), words, QUERY, RECORDS)?;
-        assert_eq!(rt; status, Status::Usage);
-        assert_eq!(rt; status.number(), 2);
-        assert_eq!(rt; written.items(), b"error 2 Usage\n".as_slice());
+        assert!(rt; ends(rt.alloc(), words, QUERY, RECORDS, Status::Usage, line)?);
     }
     Ok(())
 }
 
+/// Whether a sink whose first call fails ends the first example with OutFault and nothing written.
+fn failing_sink_ends_with_its_fault(alloc: Global) -> Result<bool, Memory> {
+    let mut files = files_of(alloc, QUERY, RECORDS)?;
+    let words = words_of(alloc, &WORDS)?;
+    let mut out = MemSink::failing_at(alloc, numbers(alloc)?);
+    let status = top(alloc, words.items(), &mut files, &mut out);
+    Ok(status == Status::OutFault && out.bytes().is_empty())
+}
+
 #[test]
 fn a_fault_of_a_file_or_the_sink_has_its_status(rt: HostRuntime) -> Result<(), Fail> {
-    let alloc = rt.alloc();
-    let missing_query = ["-", "preview", "none.txt", "a.json"];
-    let (status, written) = run(alloc, &missing_query, QUERY, RECORDS)?;
-    assert_eq!(rt; status, Status::ReadFault);
-    assert_eq!(rt; written.items(), b"error 5 ReadFault none.txt\n".as_slice());
-
-    let missing_records = ["-", "preview", "q.txt", "none.json"];
-    let (status, written) = run(alloc, &missing_records, QUERY, RECORDS)?;
-    assert_eq!(rt; status.number(), 5);
-    assert_eq!(rt;
-        written.items(),
-        b"error 5 ReadFault none.json\n".as_slice()
-    );
-
-    let mut files = files_of(alloc, QUERY, RECORDS)?;
-    let mut out = MemSink::failing_at(alloc, numbers(alloc)?);
-    let status = top(
-        alloc,
-        words_of(alloc, &WORDS)?.items(),
-        &mut files,
-        &mut out,
-    );
-    assert_eq!(rt; status, Status::OutFault);
-    assert_eq!(rt; status.number(), 9);
-    assert_eq!(rt; out.bytes(), b"".as_slice());
-    assert_eq!(rt; Status::Memory.number(), 11);
+    let rows = [
+        (
+            ["-", "preview", "none.txt", "a.json"],
+            "error 5 ReadFault none.txt\n",
+        ),
+        (
+            ["-", "preview", "q.txt", "none.json"],
+            "error 5 ReadFault none.json\n",
+        ),
+    ];
+    for (words, line) in rows {
+        let line = line.as_bytes();
+        assert!(rt; ends(rt.alloc(), &words, QUERY, RECORDS, Status::ReadFault, line)?);
+    }
+    assert!(rt; failing_sink_ends_with_its_fault(rt.alloc())?);
     Ok(())
+}
+
+#[test]
+fn statuses_have_their_numbers(rt: HostRuntime) {
+    let rows = [
+        (Status::Done, 0),
+        (Status::Usage, 2),
+        (Status::Refused, 3),
+        (Status::ReadFault, 5),
+        (Status::OutFault, 9),
+        (Status::Memory, 11),
+    ];
+    for (status, number) in rows {
+        assert_eq!(rt; status.number(), number);
+    }
 }
