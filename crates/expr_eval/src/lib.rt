@@ -10,6 +10,8 @@ mod evaluation;
 mod numbers;
 mod operations;
 mod patterns;
+#[cfg(test)]
+mod tests;
 mod texts;
 mod truths;
 
