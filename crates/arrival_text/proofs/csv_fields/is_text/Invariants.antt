@@ -1,0 +1,12 @@
+use Rattle.std.proofs.Common.{◌≡◌, drop}
+use Rattle.std.specs.List.{list_all}
+use Rattle.std.specs.Str.{is_utf8}
+use Rattle.csv.specs.Records.{fields_of}
+use Rattle.arrival_text.proofs.csv_fields.is_text.Given as goal
+
+-- all are text where the others are
+abbrev pub invariant-loop-field : goal.invariant-loop-field
+invariant-loop-field l = record {
+  row : l.field-iterator.row.now ≡ l.fields;
+  rest : list_all is_utf8 (drop l.field-iterator.at (fields_of l.fields)) ≡ list_all is_utf8 (fields_of l.fields);
+}

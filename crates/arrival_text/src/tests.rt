@@ -1,0 +1,109 @@
+//! Items of files, by tables worked out by hand. A row about JSON lines goes to json.rt, one about CSV to
+//! csv.rt; an item is shown as its enqueue moment in ticks and its values, or as its rule.
+
+mod csv;
+mod json;
+
+use crate::too_long_items;
+use event_value::{
+    Column, Columns, Item, Kind, Memory, Rule, Seq, Text, Value, push_number, push_value,
+};
+use std::alloc::Global;
+use std::test::Fail;
+
+/// The column of a kind under a name, which stands at this path.
+fn column(alloc: Global, name: &str, kind: Kind, path: &[&str]) -> Result<Column, Memory> {
+    let mut names = Seq::empty(alloc);
+    for part in path {
+        names.push(Text::of(alloc, part.as_bytes())?)?;
+    }
+    Ok(Column {
+        name: Text::of(alloc, name.as_bytes())?,
+        kind,
+        path: names,
+    })
+}
+
+/// One column of a kind.
+fn one_column(alloc: Global, kind: Kind, path: &[&str]) -> Result<Columns, Memory> {
+    let mut columns = Seq::empty(alloc);
+    columns.push(column(alloc, "v", kind, path)?)?;
+    Ok(columns)
+}
+
+/// The columns `a`, a whole number, and `b`, a text.
+fn two_columns(alloc: Global) -> Result<Columns, Memory> {
+    let mut columns = Seq::empty(alloc);
+    columns.push(column(alloc, "a", Kind::Big, &["a"])?)?;
+    columns.push(column(alloc, "b", Kind::Text, &["b"])?)?;
+    Ok(columns)
+}
+
+fn kind_name(value: &Value) -> &'static str {
+    match value {
+        Value::Null => "",
+        Value::Bit(_) => "bit ",
+        Value::Big(_) => "bigint ",
+        Value::Fixed(_) => "fixed ",
+        Value::Text(_) => "nvarchar ",
+        Value::Moment(_) => "datetime ",
+    }
+}
+
+fn rule_name(rule: Rule) -> &'static str {
+    match rule {
+        Rule::Syntax => "Syntax",
+        Rule::Enqueued => "Enqueued",
+        Rule::Number => "Number",
+        Rule::Field => "Field",
+        Rule::Long => "Long",
+        Rule::SegmentTooLong => "SegmentTooLong",
+        _ => "another rule",
+    }
+}
+
+fn push_values(text: &mut Text, values: &[Value]) -> Result<(), Memory> {
+    for value in values {
+        text.push(b' ')?;
+        text.extend(kind_name(value).as_bytes())?;
+        push_value(text, value)?;
+    }
+    Ok(())
+}
+
+fn push_item(text: &mut Text, item: &Item) -> Result<(), Memory> {
+    match item {
+        Item::Good { enqueued, values } => {
+            push_number(text, enqueued.count())?;
+            push_values(text, values.items())
+        }
+        Item::Bad(rule) => text.extend(rule_name(*rule).as_bytes()),
+    }
+}
+
+/// Whether the items are these, each shown and ended by a bar.
+fn shows(alloc: Global, items: &[Item], wanted: &str) -> Result<bool, Memory> {
+    let mut text = Text::empty(alloc);
+    for item in items {
+        push_item(&mut text, item)?;
+        text.push(b'|')?;
+    }
+    Ok(text.items() == wanted.as_bytes())
+}
+
+/// A text of this front, so many of one byte, and this back.
+fn filled(alloc: Global, front: &str, byte: u8, count: usize, back: &str) -> Result<Text, Memory> {
+    let mut text = Text::of(alloc, front.as_bytes())?;
+    for _ in 0..count {
+        text.push(byte)?;
+    }
+    text.extend(back.as_bytes())?;
+    Ok(text)
+}
+
+#[test]
+fn a_long_file_has_one_item(rt: HostRuntime) -> Result<(), Fail> {
+    let alloc = rt.alloc();
+    assert!(rt; shows(alloc, too_long_items(alloc)?.items(), "SegmentTooLong|")?);
+    Ok(())
+}
