@@ -1,11 +1,11 @@
 -- What a list has at, below, from and between times.
 use Rattle.std.proofs.Common.{◌≡◌, ℕ, ◌≤◌, ◌<◌, Bool, true, false, cond, ltb, leb, List, [], ◌∷◌, ◌++◌}
-use Rattle.std.proofs.Common.{filter, refl, ap, sym, ◌∙◌, arith, append-nil}
+use Rattle.std.proofs.Common.{filter, map, refl, ap, sym, ◌∙◌, arith, append-nil}
 use Rattle.std.proofs.lemmas.Bool.{lt-ltb, le-ltb, le-leb, lt-leb, eq-eqb, ne_eqb, ltb-true, ltb-false, leb-true}
 use Rattle.std.proofs.lemmas.List.Elements.{filter-append}
 use Rattle.row_order.specs.InOrder.{AllFrom, AllBelow, IsInOrder}
 use Rattle.row_order.specs.Stretches.{rows_at, rows_below, rows_from, rows_between}
-use Rattle.row_order.proofs.ListLemmas.{Each-append, Each-front, Each-weaker, Each-filter}
+use Rattle.row_order.proofs.ListLemmas.{Each-append, Each-front, Each-weaker, Each-filter, Each-map}
 use Rattle.row_order.proofs.ListLemmas.{filter-passes, filter-all, filter-none, filter-hit, filter-miss}
 use Rattle.row_order.proofs.ListLemmas.{filter-filter, filter-within}
 
@@ -149,3 +149,12 @@ module _ {X : Type 0} (time : X → ℕ) where
       sym (rows_below-rows_from v w (old ++ new))
       ∙ ap (rows_below time w) (rows_from-new v old new b f)
       ∙ rows_below-all w new b'
+
+-- a map that keeps the time keeps the order
+pub IsInOrder-map : {X Y : Type 0} (time : X → ℕ) (later : Y → ℕ) (f : X → Y) → ((x : X) → later (f x) ≡ time x)
+    → (xs : List X) → IsInOrder time xs → IsInOrder later (map f xs)
+IsInOrder-map time later f same [] h = tt
+IsInOrder-map time later f same (x ∷ xs) h = (
+  Each-map _ f xs (Each-weaker _ _ xs (λ y le. omega (arith, same x, same y)) h.0),
+  IsInOrder-map time later f same xs h.1,
+)
