@@ -1,2 +1,3 @@
+pub mod DerivedOrderLemmas
 pub mod NumberLemmas
 pub mod OrderLemmas

@@ -1,0 +1,6 @@
+use Rattle.event_value.specs.Printed.{million}
+use Rattle.row_groups.proofs.NumberLemmas.{quotient-split}
+use Rattle.row_groups.proofs.sum.size_in_millionths.Goals as goal
+
+pub returns : goal.returns
+returns c = quotient-split c.args.size c.args.count million c.requires.some
