@@ -1,0 +1,13 @@
+pub mod Cuts
+pub mod RuleLaws
+pub mod UnderLaws
+pub mod ReaderLaws
+pub mod TokenLaws
+pub mod ChoiceReaders
+pub mod WithinReaders
+pub mod RepeatedReaders
+pub mod Fits
+pub mod WholeTexts
+pub mod PlacedLaws
+pub mod SetLaws
+pub mod Turns
