@@ -20,7 +20,7 @@ use Rattle.arrival_text.specs.Items.{max_record, enqueued_name, enqueue_moment, 
 abbrev pub Fields : Type 0
 Fields = List (List ℕ)
 
--- fields between delimiters, in double quotes where they need them; lines that end with CR, LF or both
+-- fields between delimiters, in double quotes where they need them; CR, LF or both end a record
 abbrev pub config : ℕ → Config
 config delimiter = record default_config { delimiter = delimiter }
 
@@ -74,13 +74,17 @@ fits_header header fields = (length fields == length header) && list_all is_utf8
 abbrev pub record_item : List Column → Bool → Fields → Fields → Item
 record_item columns stamped header fields =
     if nat_lt max_record (sum_by length fields) then Bad Long
-    else (if fits_header header fields then item_of (moment_in stamped header fields) (values_of (column_value header fields) columns) else Bad Syntax)
+    else (if fits_header header fields
+    then item_of (moment_in stamped header fields) (values_of (column_value header fields) columns)
+    else Bad Syntax)
 
 -- the items of a list of records, of which the first is the header and no item
 abbrev pub items_under_header : List Column → Bool → List Fields → List Item
 items_under_header columns stamped [] = []
-items_under_header columns stamped (header ∷ records) = map (record_item columns stamped header) records
+items_under_header columns stamped (header ∷ records) =
+    map (record_item columns stamped header) records
 
 -- the items of a file
 abbrev pub csv_items_of : List Column → Bool → ℕ → List ℕ → List Item
-csv_items_of columns stamped delimiter bytes = items_under_header columns stamped (csv_records delimiter bytes)
+csv_items_of columns stamped delimiter bytes =
+    items_under_header columns stamped (csv_records delimiter bytes)

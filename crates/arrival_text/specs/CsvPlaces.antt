@@ -1,5 +1,5 @@
 -- A record whose columns are looked up by their places, for private clauses.
-use Rattle.std.specs.Prelude.{◌==◌, ◌&&◌, List, length, map, sum_by, nat_lt, Bool, if◌then◌else◌, option_and_then, Result}
+use Rattle.std.specs.Prelude.{◌==◌, ◌&&◌, List, length, map, sum_by, nat_lt, Bool, if◌then◌else◌, ℕ, Option, option_and_then, Result}
 use Rattle.std.specs.List.{list_all}
 use Rattle.std.specs.Str.{is_utf8}
 use Rattle.csv.specs.Records.{field_at}
@@ -31,10 +31,15 @@ places_in columns stamped header = record {
 abbrev pub value_at : Fields → Place → Result Value Rule
 value_at fields place = value_or_null place.kind (option_and_then (field_at fields) place.at)
 
+-- the enqueue moment of a record whose places are these
+abbrev pub moment_at : Places → Fields → Option ℕ
+moment_at places fields =
+    enqueue_moment places.stamped (option_and_then (field_at fields) places.enqueued)
+
 -- the item of a record whose columns stand at these places
 abbrev pub item_at : Places → Fields → Item
 item_at places fields =
     if nat_lt max_record (sum_by length fields) then Bad Long
     else (if (length fields == places.width) && list_all is_utf8 fields
-    then item_of (enqueue_moment places.stamped (option_and_then (field_at fields) places.enqueued)) (values_of (value_at fields) places.columns)
+    then item_of (moment_at places fields) (values_of (value_at fields) places.columns)
     else Bad Syntax)

@@ -22,7 +22,8 @@ records_left reader = records_in (reader_config reader) (reader_state reader) (b
 
 -- the reader gives records as they stand, one after the other
 unfoldable pub IsReading : Reader (Bor (List ℕ)) → Type 0
-IsReading reader = (reader_trim reader ≡ trim.None) × Ready reader × (bytes : List ℕ) × (bytes_left reader ≡ Some bytes)
+IsReading reader =
+    (reader_trim reader ≡ trim.None) × Ready reader × (bytes : List ℕ) × (bytes_left reader ≡ Some bytes)
 
 -- the records from before a read on, where it found one or didn't
 abbrev pub found_before : Bool → Fields → List Fields → List Fields

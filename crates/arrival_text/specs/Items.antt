@@ -1,4 +1,4 @@
--- The item that a record of a file is: its values, or the first rule that it breaks (docs/INPUTS, "Records").
+-- The item of a record: its values, or the first rule that it breaks (docs/INPUTS, "Records").
 use Rattle.std.specs.Prelude.{ℕ, ℤ, pos, List, [], ◌∷◌, codes, Bool, true, false, if◌then◌else◌, Option, Some, None, option_and_then, Result, Ok, Err}
 use Rattle.std.specs.Ordering.{int_eq}
 use Rattle.tick_time.specs.MomentReading.{moment_of}
@@ -39,7 +39,9 @@ text_value kind text = cast_or_field (cast_value kind (Text text))
 
 -- a whole number as a bit: 0 and 1 alone are one
 abbrev pub bit_of_number : ℤ → Result Value Rule
-bit_of_number n = if int_eq n (pos 0) then Ok (Bit false) else (if int_eq n (pos 1) then Ok (Bit true) else Err Field)
+bit_of_number n =
+    if int_eq n (pos 0) then Ok (Bit false)
+    else (if int_eq n (pos 1) then Ok (Bit true) else Err Field)
 
 -- a whole number as a value of a kind
 abbrev pub number_value : Kind → ℤ → Result Value Rule

@@ -59,17 +59,21 @@ moment_in stamped json = enqueue_moment stamped (option_and_then as_str (get enq
 -- a record is an object
 abbrev pub record_item : List Column → Bool → Option Data → Item
 record_item columns stamped (Some json) =
-    if is_some (as_object json) then item_of (moment_in stamped json) (values_of (column_value json) columns) else Bad Syntax
+    if is_some (as_object json)
+    then item_of (moment_in stamped json) (values_of (column_value json) columns) else Bad Syntax
 record_item columns stamped None = Bad Syntax
 
 -- the item of a line: the rules in order are Long, Syntax, Enqueued and those of the columns
 abbrev pub line_item : List Column → Bool → List ℕ → Item
-line_item columns stamped line = if nat_lt max_record (length line) then Bad Long else record_item columns stamped (json_of line)
+line_item columns stamped line =
+    if nat_lt max_record (length line) then Bad Long else record_item columns stamped (json_of line)
 
 -- a blank line is no item
 abbrev pub line_items : List Column → Bool → List ℕ → List Item
-line_items columns stamped line = if is_line_blank line then [] else line_item columns stamped line ∷ []
+line_items columns stamped line =
+    if is_line_blank line then [] else line_item columns stamped line ∷ []
 
 -- the items of a file
 abbrev pub json_items_of : List Column → Bool → List ℕ → List Item
-json_items_of columns stamped bytes = flat_map (line_items columns stamped) (lines (without_mark bytes))
+json_items_of columns stamped bytes =
+    flat_map (line_items columns stamped) (lines (without_mark bytes))

@@ -4,4 +4,5 @@ use Rattle.arrival_text.specs.Lines.{carriage_return}
 
 -- a line without a CR at its end
 abbrev pub without_return : List ℕ → List ℕ
-without_return line = if slice_index line (length line - 1) == carriage_return then take (length line - 1) line else line
+without_return line =
+    if slice_index line (length line - 1) == carriage_return then take (length line - 1) line else line

@@ -25,12 +25,14 @@ unfoldable pub lines : List ℕ → List (List ℕ)
 lines [] = []
 lines (b ∷ bs) =
     if b == line_feed then [] ∷ lines bs
-    else (if (b == carriage_return) && (slice_index bs 0 == line_feed) then lines bs else on_first b (lines bs))
+    else (if (b == carriage_return) && (slice_index bs 0 == line_feed) then lines bs
+    else on_first b (lines bs))
 
 -- a text without the mark EF BB BF that one in UTF-8 may begin with
 abbrev pub without_mark : List ℕ → List ℕ
 without_mark bytes =
-    if (slice_index bytes 0 == 239) && (slice_index bytes 1 == 187) && (slice_index bytes 2 == 191) then drop 3 bytes else bytes
+    if (slice_index bytes 0 == 239) && (slice_index bytes 1 == 187) && (slice_index bytes 2 == 191)
+    then drop 3 bytes else bytes
 
 -- a space or a tab
 abbrev pub is_blank : ℕ → Bool

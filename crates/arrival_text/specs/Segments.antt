@@ -14,4 +14,5 @@ too_long_items = Bad SegmentTooLong ∷ []
 
 -- the items of a file of any length, where this reads those of a segment
 abbrev pub segment_items : (List ℕ → List Item) → List ℕ → List Item
-segment_items items_in bytes = if nat_lt max_segment (length bytes) then too_long_items else items_in bytes
+segment_items items_in bytes =
+    if nat_lt max_segment (length bytes) then too_long_items else items_in bytes

@@ -51,7 +51,8 @@ fn is_utf8(bytes: &[u8]) -> bool
 
 /// The field at a place, if there is a place.
 pub fn field_at(fields: &ByteRecord, place: Option<usize>) -> Option<&[u8]>
-    ensures { option_map (λ f. f.now) result ≡ option_and_then (field_at (fields_of fields.now)) place }
+    ensures { option_map (λ f. f.now) result
+        ≡ option_and_then (field_at (fields_of fields.now)) place }
 {
     fields.get(place?)
 }
@@ -62,9 +63,10 @@ pub fn values_at(
     places: &[Place],
     fields: &ByteRecord,
 ) -> Result<Result<Seq<Value>, Rule>, Memory>
-    ensures { IfOk result (λ values. values ≡ values_of (value_at (fields_of fields.now)) places.now) }
+    ensures { IfOk result (λ values.
+        values ≡ values_of (value_at (fields_of fields.now)) places.now) }
 {
-    let mut values = Seq::empty(alloc);
+    let mut values = Seq::from_vec(Vec::with_capacity(alloc, places.len())?);
     for place in places {
         match value_at(alloc, place, fields)? {
             Ok(value) => values.push(value)?,

@@ -39,7 +39,8 @@ pub fn places_in(
     stamped: bool,
     header: &ByteRecord,
 ) -> Result<Places, Memory>
-    ensures { IfOk result (λ places. places ≡ places_in columns.now stamped (fields_of header.now)) }
+    ensures { IfOk result (λ places.
+        places ≡ places_in columns.now stamped (fields_of header.now)) }
 {
     Ok(Places {
         width: header.len(),
@@ -54,7 +55,8 @@ fn column_places(
     columns: &[Column],
     header: &ByteRecord,
 ) -> Result<Seq<Place>, Memory>
-    ensures { IfOk result (λ places. places ≡ map (column_place (fields_of header.now)) columns.now) }
+    ensures { IfOk result (λ places.
+        places ≡ map (column_place (fields_of header.now)) columns.now) }
 {
     let mut places = Seq::empty(alloc);
     for column in columns {

@@ -26,8 +26,8 @@ pub fn reader_of<'t>(alloc: Global, delimiter: u8, text: &'t [u8]) -> Reader<&'t
 pub fn next_record(reader: &mut Reader<&[u8]>, fields: &mut ByteRecord) -> Result<bool, Memory>
     requires { IsReading reader.old }
     ensures reading { OnOk result (IsReading reader.new) }
-    ensures records { IfOk result (λ found.
-        records_left reader.old ≡ found_before found (fields_of fields.new) (records_left reader.new)) }
+    ensures records { IfOk result (λ found. records_left reader.old
+        ≡ found_before found (fields_of fields.new) (records_left reader.new)) }
 {
     let Ok(found) = reader.read_byte_record(fields) else {
         return Err(Memory);

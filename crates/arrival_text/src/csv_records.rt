@@ -26,7 +26,8 @@ pub fn csv_items(
     delimiter: u8,
     bytes: &[u8],
 ) -> Result<Seq<Item>, Memory>
-    ensures items { IfOk result (λ items. items ≡ csv_items_of columns.now stamped delimiter bytes.now) }
+    ensures items { IfOk result (λ items.
+        items ≡ csv_items_of columns.now stamped delimiter bytes.now) }
     ensures few { IfOk result (λ items. length items ≤ length bytes.now) }
 {
     let mut reader = reader_of(alloc, delimiter, bytes);

@@ -56,7 +56,8 @@ fn record_item(
     stamped: bool,
     json: Option<&Json>,
 ) -> Result<Item, Memory>
-    ensures { IfOk result (λ item. item ≡ record_item columns.now stamped (option_map (λ j. view j.now) json.entry)) }
+    ensures { IfOk result (λ item. item
+        ≡ record_item columns.now stamped (option_map (λ j. view j.now) json.entry)) }
 {
     let Some(json) = json else {
         return Ok(Item::Bad(Rule::Syntax));
@@ -79,7 +80,8 @@ fn moment_in(stamped: bool, json: &Json) -> Option<Moment>
 
 /// The text that names it.
 fn text_in(json: &Json) -> Option<&[u8]>
-    ensures { option_map (λ t. t.now) result ≡ option_and_then as_str (get enqueued_name (view json.now)) }
+    ensures { option_map (λ t. t.now) result
+        ≡ option_and_then as_str (get enqueued_name (view json.now)) }
 {
     Some(json.get(ENQUEUED)?.as_str()?.as_bytes())
 }

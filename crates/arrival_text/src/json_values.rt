@@ -3,7 +3,8 @@
 ghost use Rattle.std.specs.Prelude.{◌≡◌, IfOk, option_map};
 ghost use Rattle.serde_json.specs.View.{view};
 ghost use Rattle.arrival_text.specs.Items.{values_of};
-ghost use Rattle.arrival_text.specs.JsonItems.{json_of, member_of, at_path, json_value, value_or_null, column_value};
+ghost use Rattle.arrival_text.specs.JsonItems.{json_of, member_of, at_path};
+ghost use Rattle.arrival_text.specs.JsonItems.{json_value, column_value};
 
 use crate::field_values::{number_value, text_value, truth_value};
 use event_value::{Column, Kind, Memory, Rule, Seq, Text, Value};
@@ -32,9 +33,10 @@ pub fn values_of(
     columns: &[Column],
     json: &Json,
 ) -> Result<Result<Seq<Value>, Rule>, Memory>
-    ensures { IfOk result (λ values. values ≡ values_of (column_value (view json.now)) columns.now) }
+    ensures { IfOk result (λ values.
+        values ≡ values_of (column_value (view json.now)) columns.now) }
 {
-    let mut values = Seq::empty(alloc);
+    let mut values = Seq::from_vec(Vec::with_capacity(alloc, columns.len())?);
     for column in columns {
         match column_value(alloc, json, column)? {
             Ok(value) => values.push(value)?,

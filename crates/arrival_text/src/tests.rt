@@ -1,8 +1,9 @@
-//! Items of files, by tables worked out by hand. A row about JSON lines goes to json.rt, one about CSV to
-//! csv.rt; an item is shown as its enqueue moment in ticks and its values, or as its rule.
+//! Items of files, by tables worked out by hand. A row about JSON lines goes to json_files.rt, one
+//! about CSV to csv_files.rt. An item is shown as its enqueue moment in ticks and its values, or as
+//! its rule.
 
-mod csv;
-mod json;
+mod csv_files;
+mod json_files;
 
 use crate::too_long_items;
 use event_value::{
