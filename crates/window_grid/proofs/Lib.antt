@@ -1,0 +1,5 @@
+pub mod EndLemmas
+pub mod PaneLemmas
+pub mod ContentLemmas
+pub mod StateLemmas
+pub mod RowLemmas
