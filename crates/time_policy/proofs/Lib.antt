@@ -1,5 +1,4 @@
 pub mod HistoryLemmas
-pub mod ValueOrderLemmas
 pub mod WatermarkLemmas
 pub mod SubstreamLemmas
 pub mod MarkLemmas

@@ -7,7 +7,7 @@ use Rattle.event_value.specs.declared.value.Value.{Value}
 use Rattle.time_policy.specs.SubstreamMarks.{Marks, mark_in, with_values}
 use Rattle.time_policy.specs.Substreams.{is_same_substream}
 use Rattle.time_policy.proofs.SubstreamLemmas.{mark_in-insert_entry}
-use Rattle.time_policy.proofs.ValueOrderLemmas.{derived_order-is}
+use Rattle.event_value.proofs.DerivedOrderLemmas.{derived_order-is}
 use Rattle.time_policy.proofs.substream_marks.SubstreamMarks.add.Goals as goal
 
 pub returns-clause-ok : goal.returns-clause-ok
