@@ -1,0 +1,5 @@
+-- what the contracts rest on
+pub mod Log
+pub mod Kept
+pub mod Lane
+pub mod Laws
