@@ -2,7 +2,10 @@ pub mod SymbolLemmas
 pub mod NumberLemmas
 pub mod TokensLemmas
 pub mod SpanLemmas
-pub mod ReadingLemmas
 pub mod GrammarLaws
 pub mod ReaderLaws
+pub mod ChoiceLaws
+pub mod Lines
+pub mod QueryLines
+pub mod ReadingLemmas
 pub mod QueryLaws

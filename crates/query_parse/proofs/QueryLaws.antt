@@ -1,310 +1,30 @@
 -- The reading functions read the grammar of queries.
 use Rattle.std.proofs.Common.{◌≡◌, ◌⊎◌, inl, inr, ℕ, zero, suc, List, [], ◌∷◌, ◌++◌, ◌+◌, ◌-◌, Bool, true, false, refl, ap, sym, ◌∙◌, subst, length, append_assoc}
 use Rattle.std.proofs.lemmas.List.{append-nil}
-use Rattle.std.specs.Prelude.{◌==◌, ◌||◌, ◌&&◌, not, nat_le, if◌then◌else◌, Result, Ok, Err}
+use Rattle.std.specs.Prelude.{◌==◌, nat_le, if◌then◌else◌, Result, Ok, Err}
+use Rattle.std.specs.Result.{IfOk, IfErr}
+use Rattle.std.specs.Str.Lossy.{utf8_valid_len}
 use Rattle.query_parse.specs.declared.parse_err.ParseErr.{ParseErr}
 use Rattle.query_parse.specs.declared.parse_err.ParseErr.TheVariants.{Utf8, Token as stuck_at, Expected, Deep, TooLong, Memory}
-use Rattle.query_parse.specs.declared.script.Name.{Name}
 use Rattle.query_parse.specs.declared.script.Script.{Script}
+use Rattle.query_parse.specs.declared.step.Step.{Step}
+use Rattle.query_parse.specs.declared.step.Step.TheVariants.{Skip, Token as token_step, Stuck}
 use Rattle.query_parse.specs.declared.symbol.Symbol.{Symbol}
-use Rattle.query_parse.specs.declared.symbol.Symbol.TheVariants.{Select, Into, From, Word, Comma, Unequal, EndOfText}
+use Rattle.query_parse.specs.declared.symbol.Symbol.TheVariants.{Select, Word, Unequal, EndOfText}
 use Rattle.query_parse.specs.declared.token.Token.{Token}
 use Rattle.query_parse.specs.declared.token.TokenKind.{TokenKind}
 use Rattle.query_parse.specs.declared.token.TokenKind.TheVariants as kind
-use Rattle.query_parse.specs.Tokens.{tokens_of, tokens_from, tokens_by, prepended}
-use Rattle.query_parse.specs.Steps.{step_of}
 use Rattle.query_parse.specs.Bytes.{max_text}
-use Rattle.query_parse.specs.declared.step.Step.{Step}
-use Rattle.query_parse.specs.declared.step.Step.TheVariants.{Skip, Token as token_step, Stuck}
-use Rattle.std.specs.Str.Lossy.{utf8_valid_len}
-use Rattle.std.specs.Result.{IfOk, IfErr}
+use Rattle.query_parse.specs.Grammar.{Rule, both, IsFirstUnfit}
 use Rattle.query_parse.specs.Lexemes.{Lexeme, lexemes, bytes_of, IsRefusal}
-use Rattle.query_parse.specs.Symbols.{symbol_number, is_symbol, symbol_of, fixed_among, keywords, signs}
-use Rattle.query_parse.specs.Reading.{expected, read_name, read_further, read_names, read_script, script_in, script_of, and_then}
-use Rattle.query_parse.specs.Grammar.{Rule, token, both, repeated, among, Reader, paired, then_read, read_both, mapped, read_times, IsFirstUnfit}
-use Rattle.query_parse.specs.QueryGrammar.{fixed, name_of, name, further_name, names, ScriptParts, script_from, script, IsScript, IsRefusedBy, IsDue}
-use Rattle.query_parse.proofs.GrammarLaws.{Apart, Behind, Before, cuts, closed_at, Lawful, Lawful-token, Lawful-tree, Lawful-both, Lawful-repeated}
-use Rattle.query_parse.proofs.SymbolLemmas.{equal_numbers, same_number, is_symbol-same, is_symbol-refl, is_symbol-other, decided}
-use Rattle.query_parse.proofs.ReaderLaws.{Reads, Keeps, Reads-both, Keeps-both, Reads-tree, Keeps-tree, Reads-repeated, Keeps-repeated, Reads-token, Keeps-token, TokenReader, Ended}
-
--- ---- sets that are apart by a test
-
-abbrev pub disjoint : List ℕ → List ℕ → Bool
-disjoint [] ys = true
-disjoint (x ∷ xs) ys = not (among ys x) && disjoint xs ys
-
-none_shared : (xs ys : List ℕ) (n : ℕ) → disjoint xs ys ≡ true → among xs n ≡ true → among ys n ≡ true → ⊥
-none_shared [] ys n d h k = cc
-none_shared (x ∷ xs) ys n d h k = by_cases (x == n) (among ys x) refl refl d h (λ rest. none_shared xs ys n rest)
-  where
-    by_cases : (b a : Bool) → (x == n) ≡ b → among ys x ≡ a → (not a && disjoint xs ys) ≡ true → (b || among xs n) ≡ true → (disjoint xs ys ≡ true → among xs n ≡ true → among ys n ≡ true → ⊥) → ⊥
-    by_cases b true e f d h later = cc
-    by_cases true false e f d h later = let same = equal_numbers x n e in cc (f, k, same)
-    by_cases false false e f d h later = later d h k
-
-pub apart_by : (xs ys : List ℕ) → disjoint xs ys ≡ true → Apart xs ys
-apart_by xs ys d = record { none = λ t h k. none_shared xs ys (symbol_number t.symbol) d h k }
-
--- ---- tokens
-
-choose : {A : Type 0} → Bool → A → ParseErr → Result A ParseErr
-choose true a error = Ok a
-choose false a error = Err error
-
-if_choose : {A : Type 0} (t : Bool) (a : A) (error : ParseErr) → (if t then Ok a else Err error) ≡ choose t a error
-unfolding choose
-if_choose true a error = refl
-if_choose false a error = refl
-
-expected_reads : (symbol : Symbol) → (is_symbol Unequal symbol ≡ false) → TokenReader (Unit {0}) symbol (λ _. tt) (expected symbol)
-unfolding expected choose
-expected_reads symbol other = record {
-  takes = λ t ts e. let one : Unit {0} × List Lexeme = (tt, ts) in if_choose (is_symbol t.symbol symbol) one (Expected t.place) ∙ ap (λ b. choose b one (Expected t.place)) (is_symbol-refl t.symbol symbol e);
-  refuses = λ t ts e. let one : Unit {0} × List Lexeme = (tt, ts) in if_choose (is_symbol t.symbol symbol) one (Expected t.place) ∙ ap (λ b. choose b one (Expected t.place)) (is_symbol-other t.symbol symbol e);
-  fails = λ rest a e. let one : Unit {0} × List Lexeme = (tt, []) in
-      let refused = sym (if_choose (is_symbol Unequal symbol) one (Expected 0) ∙ ap (λ b. choose b one (Expected 0)) other) ∙ e in cc (refused);
-  decides = λ t. decided t.symbol symbol;
-}
-
-name_reads : TokenReader Name Word name_of read_name
-unfolding read_name choose
-name_reads = record {
-  takes = λ t ts e. let one : Name × List Lexeme = (name_of t, ts) in if_choose (is_symbol t.symbol Word) one (Expected t.place) ∙ ap (λ b. choose b one (Expected t.place)) (is_symbol-refl t.symbol Word e);
-  refuses = λ t ts e. let one : Name × List Lexeme = (name_of t, ts) in if_choose (is_symbol t.symbol Word) one (Expected t.place) ∙ ap (λ b. choose b one (Expected t.place)) (is_symbol-other t.symbol Word e);
-  fails = λ rest a e. cc;
-  decides = λ t. decided t.symbol Word;
-}
-
--- ---- the lines of the grammar
-
-pub fixed_laws : (symbol : Symbol) → Lawful (Unit {0}) (fixed symbol) (symbol_number symbol ∷ []) [] false
-fixed_laws symbol = Lawful-tree Lexeme (Unit {0}) (λ _. tt) (token symbol) (symbol_number symbol ∷ []) [] false (Lawful-token symbol)
-
-pub fixed_read : (symbol : Symbol) → (is_symbol Unequal symbol ≡ false) → Reads (Unit {0}) (fixed symbol) [] (expected symbol)
-fixed_read symbol other = Reads-token (Unit {0}) symbol (λ _. tt) (expected symbol) (expected_reads symbol other)
-
-pub fixed_keeps : (symbol : Symbol) → (is_symbol Unequal symbol ≡ false) → (symbol ≡ EndOfText → ⊥) → Keeps (Unit {0}) (expected symbol)
-fixed_keeps symbol other h = Keeps-token (Unit {0}) symbol (λ _. tt) (expected symbol) (expected_reads symbol other) h
-
-pub name_laws : Lawful Name name (symbol_number Word ∷ []) [] false
-name_laws = Lawful-tree Lexeme Name name_of (token Word) (symbol_number Word ∷ []) [] false (Lawful-token Word)
-
-pub name_read : Reads Name name [] read_name
-name_read = Reads-token Name Word name_of read_name name_reads
-
-pub name_keeps : Keeps Name read_name
-name_keeps = Keeps-token Name Word name_of read_name name_reads (λ e. cc)
-
--- "," name
-abbrev comma_reader : Reader Name
-comma_reader ts = mapped (λ (parts : Unit {0} × Name). parts.1) (read_both (expected Comma) read_name ts)
-
-comma_laws : Lawful Name further_name (symbol_number Comma ∷ []) [] false
-comma_laws = Lawful-tree (Unit {0} × Name) Name (λ parts. parts.1) (both (fixed Comma) name) (symbol_number Comma ∷ []) [] false
-    (Lawful-both (Unit {0}) Name (fixed Comma) name (symbol_number Comma ∷ []) [] (symbol_number Word ∷ []) [] false false (fixed_laws Comma) name_laws (apart_by [] (symbol_number Word ∷ []) refl))
-
-comma_read : Reads Name further_name [] comma_reader
-comma_read = Reads-tree (Unit {0} × Name) Name (λ parts. parts.1) (both (fixed Comma) name) [] (read_both (expected Comma) read_name)
-    (Reads-both (Unit {0}) Name (fixed Comma) name (symbol_number Comma ∷ []) [] (symbol_number Word ∷ []) [] false false (fixed_laws Comma) name_laws (apart_by [] (symbol_number Word ∷ []) refl)
-    (expected Comma) read_name (fixed_read Comma refl) name_read (fixed_keeps Comma refl (λ e. cc)))
-
-comma_keeps : Keeps Name comma_reader
-comma_keeps = Keeps-tree (Unit {0} × Name) Name (λ parts. parts.1) (both (fixed Comma) name) [] (read_both (expected Comma) read_name)
-    (Reads-both (Unit {0}) Name (fixed Comma) name (symbol_number Comma ∷ []) [] (symbol_number Word ∷ []) [] false false (fixed_laws Comma) name_laws (apart_by [] (symbol_number Word ∷ []) refl)
-    (expected Comma) read_name (fixed_read Comma refl) name_read (fixed_keeps Comma refl (λ e. cc)))
-    (Keeps-both (Unit {0}) Name (fixed Comma) name (symbol_number Comma ∷ []) [] (symbol_number Word ∷ []) [] false false (fixed_laws Comma) name_laws (apart_by [] (symbol_number Word ∷ []) refl)
-    (expected Comma) read_name (fixed_read Comma refl) name_read (fixed_keeps Comma refl (λ e. cc)) name_keeps)
-
--- {"," name}
-abbrev more_reader : Reader (List Name)
-more_reader ts = read_times (length ts) (symbol_number Comma ∷ []) comma_reader ts
-
-more_laws : Lawful (List Name) (repeated further_name) (symbol_number Comma ∷ []) (symbol_number Comma ∷ []) true
-more_laws = Lawful-repeated Name further_name (symbol_number Comma ∷ []) [] comma_laws (apart_by [] (symbol_number Comma ∷ []) refl)
-
-more_read : Reads (List Name) (repeated further_name) (symbol_number Comma ∷ []) more_reader
-more_read = Reads-repeated Name further_name (symbol_number Comma ∷ []) [] comma_laws (apart_by [] (symbol_number Comma ∷ []) refl) comma_reader comma_read comma_keeps
-
-more_keeps : Keeps (List Name) more_reader
-more_keeps = Keeps-repeated Name further_name (symbol_number Comma ∷ []) [] comma_laws (apart_by [] (symbol_number Comma ∷ []) refl) comma_reader comma_read comma_keeps
-
--- name {"," name}
-abbrev cons_name : Name × List Name → List Name
-cons_name parts = parts.0 ∷ parts.1
-
-abbrev names_reader : Reader (List Name)
-names_reader ts = mapped cons_name (read_both read_name more_reader ts)
-
-names_laws : Lawful (List Name) names (symbol_number Word ∷ []) (symbol_number Comma ∷ []) false
-names_laws = Lawful-tree (Name × List Name) (List Name) cons_name (both name (repeated further_name)) (symbol_number Word ∷ []) (symbol_number Comma ∷ []) false
-    (Lawful-both Name (List Name) name (repeated further_name) (symbol_number Word ∷ []) [] (symbol_number Comma ∷ []) (symbol_number Comma ∷ []) false true name_laws more_laws (apart_by [] (symbol_number Comma ∷ []) refl))
-
-names_read : Reads (List Name) names (symbol_number Comma ∷ []) names_reader
-names_read = Reads-tree (Name × List Name) (List Name) cons_name (both name (repeated further_name)) (symbol_number Comma ∷ []) (read_both read_name more_reader)
-    (Reads-both Name (List Name) name (repeated further_name) (symbol_number Word ∷ []) [] (symbol_number Comma ∷ []) (symbol_number Comma ∷ []) false true name_laws more_laws (apart_by [] (symbol_number Comma ∷ []) refl) read_name more_reader name_read more_read name_keeps)
-
-names_keeps : Keeps (List Name) names_reader
-names_keeps = Keeps-tree (Name × List Name) (List Name) cons_name (both name (repeated further_name)) (symbol_number Comma ∷ []) (read_both read_name more_reader)
-    (Reads-both Name (List Name) name (repeated further_name) (symbol_number Word ∷ []) [] (symbol_number Comma ∷ []) (symbol_number Comma ∷ []) false true name_laws more_laws (apart_by [] (symbol_number Comma ∷ []) refl) read_name more_reader name_read more_read name_keeps)
-    (Keeps-both Name (List Name) name (repeated further_name) (symbol_number Word ∷ []) [] (symbol_number Comma ∷ []) (symbol_number Comma ∷ []) false true name_laws more_laws (apart_by [] (symbol_number Comma ∷ []) refl) read_name more_reader name_read more_read name_keeps more_keeps)
-
--- ---- a line of the grammar with all that is known of it
-
-pub record Line (A : Type 0) : Type 1 where
-  pub rule : Rule A
-  pub begins : List ℕ
-  pub continues : List ℕ
-  pub nullable : Bool
-  pub laws : Lawful A rule begins continues nullable
-  pub reader : Reader A
-  pub reads : Reads A rule continues reader
-
-abbrev then_line : {A B : Type 0} (first : Line A) (second : Line B) → Keeps A first.reader → disjoint first.continues second.begins ≡ true → Line (A × B)
-then_line {A} {B} first second keeps apart = record {
-  rule = both first.rule second.rule;
-  begins = first.begins ++ (if first.nullable then second.begins else []);
-  continues = second.continues ++ (if second.nullable then first.continues else []);
-  nullable = first.nullable && second.nullable;
-  laws = Lawful-both A B first.rule second.rule first.begins first.continues second.begins second.continues first.nullable second.nullable first.laws second.laws (apart_by first.continues second.begins apart);
-  reader = read_both first.reader second.reader;
-  reads = Reads-both A B first.rule second.rule first.begins first.continues second.begins second.continues first.nullable second.nullable first.laws second.laws (apart_by first.continues second.begins apart)
-      first.reader second.reader first.reads second.reads keeps;
-}
-
-abbrev fixed_line : (symbol : Symbol) → (is_symbol Unequal symbol ≡ false) → Line (Unit {0})
-fixed_line symbol other = record {
-  rule = fixed symbol;
-  begins = symbol_number symbol ∷ [];
-  continues = [];
-  nullable = false;
-  laws = fixed_laws symbol;
-  reader = expected symbol;
-  reads = fixed_read symbol other;
-}
-
-abbrev name_line : Line Name
-name_line = record { rule = name; begins = symbol_number Word ∷ []; continues = []; nullable = false; laws = name_laws; reader = read_name; reads = name_read }
-
-abbrev names_line : Line (List Name)
-names_line = record { rule = names; begins = symbol_number Word ∷ []; continues = symbol_number Comma ∷ []; nullable = false; laws = names_laws; reader = names_reader; reads = names_read }
-
-abbrev source_line : Line (Unit {0} × (Name × Unit {0}))
-source_line = then_line (fixed_line From refl) (then_line name_line (fixed_line EndOfText refl) name_keeps refl) (fixed_keeps From refl (λ e. cc)) refl
-
-abbrev output_line : Line (Unit {0} × (Name × (Unit {0} × (Name × Unit {0}))))
-output_line = then_line (fixed_line Into refl) (then_line name_line source_line name_keeps refl) (fixed_keeps Into refl (λ e. cc)) refl
-
-abbrev parts_line : Line ScriptParts
-parts_line = then_line (fixed_line Select refl) (then_line names_line output_line names_keeps refl) (fixed_keeps Select refl (λ e. cc)) refl
-
-abbrev script_reader : Reader Script
-script_reader ts = mapped script_from (parts_line.reader ts)
-
-script_reads : Reads Script script parts_line.continues script_reader
-script_reads = Reads-tree ScriptParts Script script_from parts_line.rule parts_line.continues parts_line.reader parts_line.reads
-
--- ---- the reading functions are these readers
-
-flipped : (m n : ℕ) → (m == n) ≡ ((n == m) || false)
-flipped m n = by_cases (m == n) (n == m) refl refl
-  where
-    by_cases : (a b : Bool) → (m == n) ≡ a → (n == m) ≡ b → a ≡ (b || false)
-    by_cases true true e f = refl
-    by_cases true false e f = let same = same_number n m (sym (equal_numbers m n e)) in cc (same, f)
-    by_cases false true e f = let same = same_number m n (sym (equal_numbers n m f)) in cc (same, e)
-    by_cases false false e f = refl
-
-is_comma : (s : Symbol) → is_symbol s Comma ≡ (among (symbol_number Comma ∷ []) (symbol_number s))
-is_comma s = flipped (symbol_number s) (symbol_number Comma)
-
-abbrev cons_after : Name → Result (List Name × List Lexeme) ParseErr → Result (List Name × List Lexeme) ParseErr
-cons_after first read = and_then read (λ names end. Ok (first ∷ names, end))
-
-cons_after-is : (first : Name) (read : Result (List Name × List Lexeme) ParseErr) → cons_after first read ≡ mapped cons_name (paired first read)
-cons_after-is first (Ok read) = refl
-cons_after-is first (Err error) = refl
-
-abbrev names_after : Result (Name × List Lexeme) ParseErr → Reader (List Name) → Result (List Name × List Lexeme) ParseErr
-names_after read more = and_then read (λ first rest. cons_after first (more rest))
-
-names_after-is : (read : Result (Name × List Lexeme) ParseErr) (f g : Reader (List Name)) → ((rest : List Lexeme) → f rest ≡ g rest) → names_after read f ≡ mapped cons_name (then_read read g)
-names_after-is (Ok read) f g h = cons_after-is read.0 (f read.1) ∙ ap (λ (r : Result (List Name × List Lexeme) ParseErr). mapped cons_name (paired read.0 r)) (h read.1)
-names_after-is (Err error) f g h = refl
-
-name_only : (read : Result (Name × List Lexeme) ParseErr) → mapped (λ (parts : Unit {0} × Name). parts.1) (paired tt read) ≡ read
-name_only (Ok read) = refl
-name_only (Err error) = refl
-
-comma_reader-is : (t : Lexeme) (ts : List Lexeme) → t.symbol ≡ Comma → comma_reader (t ∷ ts) ≡ read_name ts
-comma_reader-is t ts e =
-    ap (λ (r : Result (Unit {0} × List Lexeme) ParseErr). mapped (λ (parts : Unit {0} × Name). parts.1) (then_read r read_name)) ((expected_reads Comma refl).takes t ts e) ∙ name_only (read_name ts)
-
-either_way : {A : Type 0} (b : Bool) (x y z : A) → (b ≡ true → x ≡ y) → (if b then x else z) ≡ (if b then y else z)
-either_way true x y z h = h refl
-either_way false x y z h = refl
-
-further-times : (n : ℕ) (ts : List Lexeme) → read_further n ts ≡ read_times n (symbol_number Comma ∷ []) comma_reader ts
-unfolding read_further
-further-times zero ts = refl
-further-times (suc n) [] = refl
-further-times (suc n) (t ∷ ts) =
-    let stopped : Result (List Name × List Lexeme) ParseErr = Ok ([], t ∷ ts) in
-    ap (λ b. if b then names_after (read_name ts) (read_further n) else stopped) (is_comma t.symbol)
-    ∙ either_way (among (symbol_number Comma ∷ []) (symbol_number t.symbol)) (names_after (read_name ts) (read_further n)) (mapped cons_name (then_read (comma_reader (t ∷ ts)) (read_times n (symbol_number Comma ∷ []) comma_reader))) stopped
-    (λ e. names_after-is (read_name ts) (read_further n) (read_times n (symbol_number Comma ∷ []) comma_reader) (further-times n)
-    ∙ ap (λ (r : Result (Name × List Lexeme) ParseErr). mapped cons_name (then_read r (read_times n (symbol_number Comma ∷ []) comma_reader))) (sym (comma_reader-is t ts (is_symbol-same t.symbol Comma (is_comma t.symbol ∙ e)))))
-
-read_names-is : (ts : List Lexeme) → read_names ts ≡ names_reader ts
-unfolding read_names
-read_names-is ts = names_after-is (read_name ts) (λ rest. read_further (length rest) rest) more_reader (λ rest. further-times (length rest) rest)
-
--- ---- a script is the first part of what its reader gives
-
-bind_same : {A B : Type 0} (read : Result (A × List Lexeme) ParseErr) (f g : A → List Lexeme → Result B ParseErr) → ((a : A) (rest : List Lexeme) → f a rest ≡ g a rest) → and_then read f ≡ and_then read g
-bind_same (Ok read) f g h = h read.0 read.1
-bind_same (Err error) f g h = refl
-
-bind_paired : {A B C : Type 0} (a : A) (read : Result (B × List Lexeme) ParseErr) (k : A × B → List Lexeme → Result C ParseErr) → and_then read (λ b rest. k (a, b) rest) ≡ and_then (paired a read) k
-bind_paired a (Ok read) k = refl
-bind_paired a (Err error) k = refl
-
-bind_then : {A B C : Type 0} (read : Result (A × List Lexeme) ParseErr) (second : Reader B) (k : A × B → List Lexeme → Result C ParseErr)
-    → and_then read (λ a middle. and_then (second middle) (λ b rest. k (a, b) rest)) ≡ and_then (then_read read second) k
-bind_then (Ok read) second k = bind_paired read.0 (second read.1) k
-bind_then (Err error) second k = refl
-
-abbrev first_part : Result (Script × List Lexeme) ParseErr → Result Script ParseErr
-first_part (Ok read) = Ok read.0
-first_part (Err error) = Err error
-
-first_part-mapped : (read : Result (ScriptParts × List Lexeme) ParseErr) → and_then read (λ parts rest. Ok (script_from parts)) ≡ first_part (mapped script_from read)
-first_part-mapped (Ok read) = refl
-first_part-mapped (Err error) = refl
-
--- what is read behind the names
-abbrev behind_names : List Name → List Lexeme → Result Script ParseErr
-behind_names items at_into =
-    and_then (expected Into at_into) (λ _ at_output.
-    and_then (read_name at_output) (λ output at_from.
-    and_then (expected From at_from) (λ _ at_source.
-    and_then (read_name at_source) (λ source at_end.
-    and_then (expected EndOfText at_end) (λ _ _. Ok (record { items = items; output = output; source = source }))))))
-
-read_script-is : (ts : List Lexeme) → read_script ts ≡ first_part (script_reader ts)
-unfolding read_script
-read_script-is ts =
-    bind_same (expected Select ts) _ _ (λ _ at_items.
-    ap (λ (r : Result (List Name × List Lexeme) ParseErr). and_then r behind_names) (read_names-is at_items)
-    ∙ bind_same (names_reader at_items) _ _ (λ items at_into.
-    bind_same (expected Into at_into) _ _ (λ _ at_output.
-    bind_same (read_name at_output) _ _ (λ output at_from.
-    bind_same (expected From at_from) _ _ (λ _ at_source. bind_then (read_name at_source) (expected EndOfText) _)
-    ∙ bind_then (expected From at_from) (read_both read_name (expected EndOfText)) _)
-    ∙ bind_then (read_name at_output) source_line.reader _)
-    ∙ bind_then (expected Into at_into) (read_both read_name source_line.reader) _)
-    ∙ bind_then (names_reader at_items) output_line.reader _)
-    ∙ bind_then (expected Select ts) (read_both names_reader output_line.reader) (λ parts rest. Ok (script_from parts))
-    ∙ first_part-mapped (parts_line.reader ts)
+use Rattle.query_parse.specs.QueryGrammar.{fixed, ScriptParts, script, IsScript, IsRefusedBy, IsDue}
+use Rattle.query_parse.specs.Reading.{read_script, script_in, script_of}
+use Rattle.query_parse.specs.Steps.{step_of}
+use Rattle.query_parse.specs.Symbols.{symbol_number, symbol_of, fixed_among, words, signs}
+use Rattle.query_parse.specs.Tokens.{tokens_of, tokens_from, tokens_by, prepended}
+use Rattle.query_parse.proofs.GrammarLaws.{Behind, Before, cuts, closed_at}
+use Rattle.query_parse.proofs.QueryLines.{parts_rule, parts_line, script_reader, script_line, first_part, read_script-is}
+use Rattle.query_parse.proofs.ReaderLaws.{Ended}
 
 -- ---- the laws of the whole
 
@@ -337,13 +57,13 @@ ends_both A B first second laws = record {
       (w.0 ++ last.0, last.1, sym w.2 ∙ ap (λ (xs : List Lexeme). w.0 ++ xs) last.2 ∙ sym (append_assoc w.0 last.0 (last.1 ∷ [])), last.3);
 }
 
-script_ends : EndsText ScriptParts parts_line.rule
-script_ends = ends_both _ _ _ _ (ends_both _ _ _ _ (ends_both _ _ _ _ (ends_both _ _ _ _ (ends_both _ _ _ _ (ends_both _ _ _ _ ends_fixed)))))
+script_ends : EndsText ScriptParts parts_rule
+script_ends = ends_both _ _ _ _ (ends_both _ _ _ _ (ends_both _ _ _ _ (ends_both _ _ _ _ (ends_both _ _ _ _ (ends_both _ _ _ _ (ends_both _ _ _ _ ends_fixed))))))
 
 pub script_sound : (ts : List Lexeme) (found : Script) → Ended ts → read_script ts ≡ Ok found → script.whole ts found
 script_sound ts found ended e =
     let r = first_part_ok (script_reader ts) found (sym (read_script-is ts) ∙ e) in
-    let g = script_reads.got ts r.0 found r.1 in
+    let g = script_line.reads.got ts r.0 found r.1 in
     let last = script_ends.ends g.used g.whole.0 g.whole.1 in
     let split : ts ≡ last.0 ++ last.1 ∷ r.0 = sym g.all ∙ ap (λ (xs : List Lexeme). xs ++ r.0) last.2 ∙ append_assoc last.0 (last.1 ∷ []) r.0 in
     let none = ended_last last.0 r.0 last.1 last.3 (subst Ended split ended) in
@@ -352,11 +72,11 @@ script_sound ts found ended e =
 
 pub script_complete : (ts : List Lexeme) (found : Script) → script.whole ts found → read_script ts ≡ Ok found
 script_complete ts found w =
-    let read = script_reads.complete ts [] found w (record { free = λ t more r h. cc }) in
+    let read = script_line.reads.complete ts [] found w (record { free = λ t more r h. cc }) in
     read_script-is ts ∙ ap first_part (ap script_reader (sym (append-nil ts)) ∙ read)
 
 pub script_refused : (ts : List Lexeme) (error : ParseErr) → Ended ts → read_script ts ≡ Err error → IsFirstUnfit script.front ts error
-script_refused ts error ended e = script_reads.refused ts error ended (first_part_err (script_reader ts) error (sym (read_script-is ts) ∙ e))
+script_refused ts error ended e = script_line.reads.refused ts error ended (first_part_err (script_reader ts) error (sym (read_script-is ts) ∙ e))
 
 -- ---- over a text
 
@@ -376,7 +96,7 @@ among-end (symbol ∷ symbols) text other h k e = by_cases _ e (λ rest. among-e
 
 symbol_of-end : (kind : TokenKind) (text : List ℕ) → symbol_of kind text ≡ EndOfText → ⊥
 unfolding no_end
-symbol_of-end kind.Word text e = among-end keywords text Word ((λ h. cc), ((λ h. cc), ((λ h. cc), ((λ h. cc), ((λ h. cc), ((λ h. cc), ((λ h. cc), ((λ h. cc), ((λ h. cc), ((λ h. cc), ((λ h. cc), ((λ h. cc), ((λ h. cc), ((λ h. cc), ((λ h. cc), ((λ h. cc), ((λ h. cc), ((λ h. cc), ((λ h. cc), ((λ h. cc), ((λ h. cc), ((λ h. cc), ((λ h. cc), ((λ h. cc), ((λ h. cc), ((λ h. cc), ((λ h. cc), ((λ h. cc), ((λ h. cc), ((λ h. cc), ((λ h. cc), ((λ h. cc), ((λ h. cc), ((λ h. cc), tt)))))))))))))))))))))))))))))))))) (λ h. cc) e
+symbol_of-end kind.Word text e = among-end words text Word ((λ h. cc), ((λ h. cc), ((λ h. cc), ((λ h. cc), ((λ h. cc), ((λ h. cc), ((λ h. cc), ((λ h. cc), ((λ h. cc), ((λ h. cc), ((λ h. cc), ((λ h. cc), ((λ h. cc), ((λ h. cc), ((λ h. cc), ((λ h. cc), ((λ h. cc), ((λ h. cc), ((λ h. cc), ((λ h. cc), ((λ h. cc), ((λ h. cc), ((λ h. cc), ((λ h. cc), ((λ h. cc), ((λ h. cc), ((λ h. cc), ((λ h. cc), ((λ h. cc), ((λ h. cc), ((λ h. cc), ((λ h. cc), ((λ h. cc), ((λ h. cc), ((λ h. cc), tt))))))))))))))))))))))))))))))))))) (λ h. cc) e
 symbol_of-end kind.Bracketed text e = cc
 symbol_of-end kind.Number text e = cc
 symbol_of-end kind.Text text e = cc
@@ -468,7 +188,7 @@ unfit_once front ts a b closed u v = by_cases (cuts u.used (u.token ∷ u.more) 
         absurd (u.unfit (subst (λ (t : Lexeme). front (u.used ++ t ∷ [])) same (closed u.used c.next c.more (subst (λ (xs : List Lexeme). front xs) c.xs_is v.fits))))
 
 script_closed : (xs : List Lexeme) (t : Lexeme) (ys : List Lexeme) → script.front (xs ++ t ∷ ys) → script.front (xs ++ t ∷ [])
-script_closed xs t ys f = closed_at ScriptParts parts_line.rule parts_line.begins parts_line.continues parts_line.nullable parts_line.laws xs t ys f
+script_closed xs t ys f = closed_at ScriptParts parts_rule (symbol_number Select ∷ []) [] false parts_line.laws xs t ys f
 
 -- all tokens of a query fit
 none_unfit : (ts : List Lexeme) (found : Script) (error : ParseErr) → script.whole ts found → IsFirstUnfit script.front ts error → ⊥

@@ -6,7 +6,7 @@ use Rattle.std.proofs.lemmas.Bool.Decides.{nat_tests}
 use Rattle.std.specs.Prelude.{◌==◌}
 use Rattle.query_parse.specs.contracts.symbol.Symbol.{the_type}
 use Rattle.query_parse.specs.declared.symbol.Symbol.{Symbol}
-use Rattle.query_parse.specs.declared.symbol.Symbol.TheVariants.{With, As, Union, Select, Into, From, Where, Group, By, Having, Timestamp, Over, Inner, Left, Outer, Join, On, Partition, Or, And, Not, Between, In, Like, Is, Null, Case, When, Then, Else, End, Cast, TryCast, Distinct, Word, Bracketed, Number, Text, Open, Close, Comma, Point, Semicolon, Star, Plus, Minus, Slash, Percent, Equal, Unequal, Less, LessEqual, Greater, GreaterEqual, EndOfText}
+use Rattle.query_parse.specs.declared.symbol.Symbol.TheVariants.{With, As, Union, Select, Into, From, Where, Group, By, Having, Timestamp, Over, Inner, Left, Outer, Join, On, Partition, Or, And, Not, Between, In, Like, Is, Null, Case, When, Then, Else, End, Cast, TryCast, Distinct, System, Word, Bracketed, Number, Text, Open, Close, Comma, Point, Semicolon, Star, Plus, Minus, Slash, Percent, Equal, Unequal, Less, LessEqual, Greater, GreaterEqual, EndOfText}
 use Rattle.query_parse.specs.Symbols.{symbol_number, is_symbol}
 
 -- the number is the place among the variants
@@ -45,6 +45,7 @@ number-tag End = refl
 number-tag Cast = refl
 number-tag TryCast = refl
 number-tag Distinct = refl
+number-tag System = refl
 number-tag Word = refl
 number-tag Bracketed = refl
 number-tag Number = refl

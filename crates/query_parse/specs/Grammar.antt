@@ -1,5 +1,7 @@
 -- Grammars over tokens: each rule says which lists of tokens are whole, with their tree, and which are fronts of such lists.
-use Rattle.std.specs.Prelude.{◌≡◌, ◌⊎◌, ℕ, zero, suc, List, [], ◌∷◌, ◌++◌, ◌==◌, ◌||◌, Bool, false, if◌then◌else◌, Result, Ok, Err}
+use Rattle.std.proofs.Common.{inl, inr}
+use Rattle.std.specs.Prelude.{◌≡◌, ◌⊎◌, ℕ, zero, suc, List, [], ◌∷◌, ◌++◌, ◌==◌, ◌||◌, Bool, false, if◌then◌else◌}
+use Rattle.std.specs.Prelude.{Option, Some, None, Result, Ok, Err}
 use Rattle.query_parse.specs.declared.parse_err.ParseErr.{ParseErr}
 use Rattle.query_parse.specs.declared.parse_err.ParseErr.TheVariants.{Expected}
 use Rattle.query_parse.specs.declared.symbol.Symbol.{Symbol}
@@ -30,6 +32,26 @@ tree {A} f rule = record {
   whole = λ ts b. (a : A) × rule.whole ts a × (b ≡ f a);
   front = rule.front;
 }
+
+-- nothing
+abbrev pub nothing : Rule (Unit {0})
+nothing = record { whole = λ ts a. ts ≡ []; front = λ ts. ts ≡ [] }
+
+-- one rule or another
+abbrev pub WholeOfEither : {A B : Type 0} → Rule A → Rule B → List Lexeme → A ⊎ B → Type 0
+WholeOfEither first second ts (inl a) = first.whole ts a
+WholeOfEither first second ts (inr b) = second.whole ts b
+
+abbrev pub choice : {A B : Type 0} → Rule A → Rule B → Rule (A ⊎ B)
+choice first second = record { whole = WholeOfEither first second; front = λ ts. first.front ts ⊎ second.front ts }
+
+-- the rule or nothing
+abbrev pub option_of : {A : Type 0} → A ⊎ Unit {0} → Option A
+option_of (inl a) = Some a
+option_of (inr b) = None
+
+abbrev pub optional : {A : Type 0} → Rule A → Rule (Option A)
+optional rule = tree option_of (choice rule nothing)
 
 -- nothing, with a tree of its own, or the rule
 abbrev pub perhaps : {A : Type 0} → A → Rule A → Rule A
@@ -85,6 +107,20 @@ begins_with set (t ∷ ts) = among set (symbol_number t.symbol)
 abbrev pub read_times : {A : Type 0} → ℕ → List ℕ → Reader A → Reader (List A)
 read_times zero set read ts = Ok ([], ts)
 read_times (suc n) set read ts = if begins_with set ts then mapped (λ pair. pair.0 ∷ pair.1) (then_read (read ts) (read_times n set read)) else Ok ([], ts)
+
+-- nothing is read
+abbrev pub read_nothing : Reader (Unit {0})
+read_nothing ts = Ok (tt, ts)
+
+-- the first reader where the next token begins it, and else the second
+abbrev pub to_left : {A B : Type 0} → A → A ⊎ B
+to_left a = inl a
+
+abbrev pub to_right : {A B : Type 0} → B → A ⊎ B
+to_right b = inr b
+
+abbrev pub read_choice : {A B : Type 0} → List ℕ → Reader A → Reader B → Reader (A ⊎ B)
+read_choice set first second ts = if begins_with set ts then mapped to_left (first ts) else mapped to_right (second ts)
 
 -- the error stands at the first token with which the tokens so far are no front
 pub record IsFirstUnfit (front : List Lexeme → Type 0) (ts : List Lexeme) (error : ParseErr) : Type 0 where

@@ -5,13 +5,13 @@ use Rattle.std.specs.Char.{to_ascii_lowercase}
 use Rattle.query_parse.specs.declared.token.TokenKind.{TokenKind}
 use Rattle.query_parse.specs.declared.token.TokenKind.TheVariants as kind
 use Rattle.query_parse.specs.declared.symbol.Symbol.{Symbol}
-use Rattle.query_parse.specs.declared.symbol.Symbol.TheVariants.{With, As, Union, Select, Into, From, Where, Group, By, Having, Timestamp, Over, Inner, Left, Outer, Join, On, Partition, Or, And, Not, Between, In, Like, Is, Null, Case, When, Then, Else, End, Cast, TryCast, Distinct, Word, Bracketed, Number, Text, Open, Close, Comma, Point, Semicolon, Star, Plus, Minus, Slash, Percent, Equal, Unequal, Less, LessEqual, Greater, GreaterEqual, EndOfText}
+use Rattle.query_parse.specs.declared.symbol.Symbol.TheVariants.{With, As, Union, Select, Into, From, Where, Group, By, Having, Timestamp, Over, Inner, Left, Outer, Join, On, Partition, Or, And, Not, Between, In, Like, Is, Null, Case, When, Then, Else, End, Cast, TryCast, Distinct, System, Word, Bracketed, Number, Text, Open, Close, Comma, Point, Semicolon, Star, Plus, Minus, Slash, Percent, Equal, Unequal, Less, LessEqual, Greater, GreaterEqual, EndOfText}
 
 -- two words are equal, without ASCII case
 unfoldable pub is_same_word : List ℕ → List ℕ → Bool
 is_same_word first second = bytes_eq (map to_ascii_lowercase first) (map to_ascii_lowercase second)
 
--- the canonical text of a keyword or a sign
+-- the canonical text of a keyword, of SYSTEM or of a sign
 abbrev pub fixed_text : Symbol → List ℕ
 fixed_text With = codes "WITH"
 fixed_text As = codes "AS"
@@ -47,6 +47,7 @@ fixed_text End = codes "END"
 fixed_text Cast = codes "CAST"
 fixed_text TryCast = codes "TRY_CAST"
 fixed_text Distinct = codes "DISTINCT"
+fixed_text System = codes "SYSTEM"
 fixed_text Word = []
 fixed_text Bracketed = []
 fixed_text Number = []
@@ -74,11 +75,12 @@ unfoldable pub fixed_among : List Symbol → List ℕ → Symbol → Symbol
 fixed_among [] text other = other
 fixed_among (symbol ∷ symbols) text other = if is_same_word (fixed_text symbol) text then symbol else fixed_among symbols text other
 
-abbrev pub keywords : List Symbol
-keywords =
+-- the keywords, and SYSTEM
+abbrev pub words : List Symbol
+words =
     With ∷ As ∷ Union ∷ Select ∷ Into ∷ From ∷ Where ∷ Group ∷ By ∷ Having ∷ Timestamp ∷ Over ∷
     Inner ∷ Left ∷ Outer ∷ Join ∷ On ∷ Partition ∷ Or ∷ And ∷ Not ∷ Between ∷ In ∷ Like ∷ Is ∷
-    Null ∷ Case ∷ When ∷ Then ∷ Else ∷ End ∷ Cast ∷ TryCast ∷ Distinct ∷ []
+    Null ∷ Case ∷ When ∷ Then ∷ Else ∷ End ∷ Cast ∷ TryCast ∷ Distinct ∷ System ∷ []
 
 -- the signs but `<>`, which `!=` is read as
 abbrev pub signs : List Symbol
@@ -86,9 +88,9 @@ signs =
     Open ∷ Close ∷ Comma ∷ Point ∷ Semicolon ∷ Star ∷ Plus ∷ Minus ∷ Slash ∷ Percent ∷ Equal ∷
     Less ∷ LessEqual ∷ Greater ∷ GreaterEqual ∷ []
 
--- a word is a keyword, without case, or a plain word
+-- a word is a keyword or SYSTEM, without case, or another word
 abbrev pub symbol_of : TokenKind → List ℕ → Symbol
-symbol_of kind.Word text = fixed_among keywords text Word
+symbol_of kind.Word text = fixed_among words text Word
 symbol_of kind.Bracketed text = Bracketed
 symbol_of kind.Number text = Number
 symbol_of kind.Text text = Text
@@ -130,27 +132,28 @@ symbol_number End = 30
 symbol_number Cast = 31
 symbol_number TryCast = 32
 symbol_number Distinct = 33
-symbol_number Word = 34
-symbol_number Bracketed = 35
-symbol_number Number = 36
-symbol_number Text = 37
-symbol_number Open = 38
-symbol_number Close = 39
-symbol_number Comma = 40
-symbol_number Point = 41
-symbol_number Semicolon = 42
-symbol_number Star = 43
-symbol_number Plus = 44
-symbol_number Minus = 45
-symbol_number Slash = 46
-symbol_number Percent = 47
-symbol_number Equal = 48
-symbol_number Unequal = 49
-symbol_number Less = 50
-symbol_number LessEqual = 51
-symbol_number Greater = 52
-symbol_number GreaterEqual = 53
-symbol_number EndOfText = 54
+symbol_number System = 34
+symbol_number Word = 35
+symbol_number Bracketed = 36
+symbol_number Number = 37
+symbol_number Text = 38
+symbol_number Open = 39
+symbol_number Close = 40
+symbol_number Comma = 41
+symbol_number Point = 42
+symbol_number Semicolon = 43
+symbol_number Star = 44
+symbol_number Plus = 45
+symbol_number Minus = 46
+symbol_number Slash = 47
+symbol_number Percent = 48
+symbol_number Equal = 49
+symbol_number Unequal = 50
+symbol_number Less = 51
+symbol_number LessEqual = 52
+symbol_number Greater = 53
+symbol_number GreaterEqual = 54
+symbol_number EndOfText = 55
 
 abbrev pub is_symbol : Symbol → Symbol → Bool
 is_symbol a b = symbol_number a == symbol_number b

@@ -27,5 +27,5 @@ pub use laws::{each_text_has_an_answer, no_text_has_two_answers};
 pub use lexer::{MAX_TEXT, tokens};
 pub use parse_err::ParseErr;
 pub use query::parse;
-pub use script::{Name, Script};
+pub use script::{Name, Script, SelectItem};
 pub use token::{Token, TokenKind};

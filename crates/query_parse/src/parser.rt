@@ -6,10 +6,12 @@ ghost use Rattle.query_parse.specs.Bytes.{max_text};
 ghost use Rattle.query_parse.specs.Tokens.{AscendWithin};
 ghost use Rattle.query_parse.specs.Lexemes.{bytes_of, lexemes, IsRefusal};
 ghost use Rattle.query_parse.specs.Symbols.{is_symbol};
-ghost use Rattle.query_parse.specs.Reading.{first_symbol, first_place, first_bytes, expected, read_name, read_names, read_script};
+ghost use Rattle.query_parse.specs.Reading.{first_symbol, first_place, first_bytes, is_word, expected};
+ghost use Rattle.query_parse.specs.Reading.{read_name, read_time_name, read_system_item, read_item};
+ghost use Rattle.query_parse.specs.Reading.{read_items, read_stamp, read_script};
 
 use crate::parse_err::ParseErr;
-use crate::script::{Name, Script};
+use crate::script::{Name, Script, SelectItem};
 use crate::symbol::{Symbol, symbol_at};
 use crate::token::Token;
 use event_value::{Seq, Text};
@@ -122,12 +124,18 @@ impl<'a> Parser<'a> {
         Ok(())
     }
 
+    fn is_word(&self) -> bool
+        ensures { result ≡ is_word (first_symbol self.now) }
+    {
+        self.is(Symbol::Word) || self.is(Symbol::System)
+    }
+
     #[tactic(auto, unfolding(crate::specs::Reading::read_name))]
     fn name(&mut self, alloc: Global) -> Result<Name, ParseErr>
         ensures ok { IfOk result (λ name. read_name self.old ≡ Ok (name, self.new)) }
         ensures err { IfErr result (IsRefusal (read_name self.old)) }
     {
-        if !self.is(Symbol::Word) {
+        if !self.is_word() {
             return Err(ParseErr::Expected(self.place()));
         }
         let name = Name {
@@ -138,18 +146,71 @@ impl<'a> Parser<'a> {
         Ok(name)
     }
 
-    #[tactic(auto, unfolding(crate::specs::Reading::read_names))]
-    fn names(&mut self, alloc: Global) -> Result<Seq<Name>, ParseErr>
-        ensures ok { IfOk result (λ names. read_names self.old ≡ Ok (names, self.new)) }
-        ensures err { IfErr result (IsRefusal (read_names self.old)) }
+    /// `.TIMESTAMP() AS` and a name.
+    #[tactic(auto, unfolding(crate::specs::Reading::read_time_name))]
+    fn time_name(&mut self, alloc: Global) -> Result<Name, ParseErr>
+        ensures ok { IfOk result (λ name. read_time_name self.old ≡ Ok (name, self.new)) }
+        ensures err { IfErr result (IsRefusal (read_time_name self.old)) }
     {
-        let mut names = Seq::empty(alloc);
-        names.push(self.name(alloc)?)?;
+        self.expect(Symbol::Point)?;
+        self.expect(Symbol::Timestamp)?;
+        self.expect(Symbol::Open)?;
+        self.expect(Symbol::Close)?;
+        self.expect(Symbol::As)?;
+        self.name(alloc)
+    }
+
+    /// The item that the word SYSTEM begins, behind it.
+    #[tactic(auto, unfolding(crate::specs::Reading::read_system_item))]
+    fn system_item(&mut self, alloc: Global, column: Name) -> Result<SelectItem, ParseErr>
+        ensures ok { IfOk result (λ item. read_system_item column self.old ≡ Ok (item, self.new)) }
+        ensures err { IfErr result (IsRefusal (read_system_item column self.old)) }
+    {
+        if !self.is(Symbol::Point) {
+            return Ok(SelectItem::Column(column));
+        }
+        Ok(SelectItem::Time(self.time_name(alloc)?))
+    }
+
+    #[tactic(auto, unfolding(crate::specs::Reading::read_item))]
+    fn item(&mut self, alloc: Global) -> Result<SelectItem, ParseErr>
+        ensures ok { IfOk result (λ item. read_item self.old ≡ Ok (item, self.new)) }
+        ensures err { IfErr result (IsRefusal (read_item self.old)) }
+    {
+        let is_system = self.is(Symbol::System);
+        let column = self.name(alloc)?;
+        if !is_system {
+            return Ok(SelectItem::Column(column));
+        }
+        self.system_item(alloc, column)
+    }
+
+    #[tactic(auto, unfolding(crate::specs::Reading::read_items))]
+    fn items(&mut self, alloc: Global) -> Result<Seq<SelectItem>, ParseErr>
+        ensures ok { IfOk result (λ items. read_items self.old ≡ Ok (items, self.new)) }
+        ensures err { IfErr result (IsRefusal (read_items self.old)) }
+    {
+        let mut items = Seq::empty(alloc);
+        items.push(self.item(alloc)?)?;
         'further: while self.is(Symbol::Comma) {
             self.advance();
-            names.push(self.name(alloc)?)?;
+            items.push(self.item(alloc)?)?;
         }
-        Ok(names)
+        Ok(items)
+    }
+
+    /// `TIMESTAMP BY` and a name, or nothing.
+    #[tactic(auto, unfolding(crate::specs::Reading::read_stamp))]
+    fn stamp(&mut self, alloc: Global) -> Result<Option<Name>, ParseErr>
+        ensures ok { IfOk result (λ stamp. read_stamp self.old ≡ Ok (stamp, self.new)) }
+        ensures err { IfErr result (IsRefusal (read_stamp self.old)) }
+    {
+        if !self.is(Symbol::Timestamp) {
+            return Ok(None);
+        }
+        self.expect(Symbol::Timestamp)?;
+        self.expect(Symbol::By)?;
+        Ok(Some(self.name(alloc)?))
     }
 
     /// A whole query, and then the end of the text.
@@ -159,16 +220,18 @@ impl<'a> Parser<'a> {
         ensures err { IfErr result (IsRefusal (read_script self.old)) }
     {
         self.expect(Symbol::Select)?;
-        let items = self.names(alloc)?;
+        let items = self.items(alloc)?;
         self.expect(Symbol::Into)?;
         let output = self.name(alloc)?;
         self.expect(Symbol::From)?;
         let source = self.name(alloc)?;
+        let stamp = self.stamp(alloc)?;
         self.end()?;
         Ok(Script {
             items,
             output,
             source,
+            stamp,
         })
     }
 }

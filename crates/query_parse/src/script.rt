@@ -9,10 +9,21 @@ pub struct Name {
     pub place: u32,
 }
 
-/// A query: `SELECT word {"," word} INTO word FROM word`.
+/// What a query selects.
+#[derive(Debug, Drop)]
+pub enum SelectItem {
+    /// The column of this name.
+    Column(Name),
+    /// The time of the row, under this name.
+    Time(Name),
+}
+
+/// A query: `SELECT item {"," item} INTO word FROM word [TIMESTAMP BY word]`, where an item is a word
+/// or `System.Timestamp() AS word`.
 #[derive(Debug, Drop)]
 pub struct Script {
-    pub items: Seq<Name>,
+    pub items: Seq<SelectItem>,
     pub output: Name,
     pub source: Name,
+    pub stamp: Option<Name>,
 }

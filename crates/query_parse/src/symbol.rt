@@ -1,11 +1,11 @@
 //! `Symbol`, what a token is to the grammar.
 
 ghost use Rattle.std.specs.Prelude.{◌≡◌};
-ghost use Rattle.query_parse.specs.Symbols.{symbol_of, symbol_number, is_symbol, fixed_text, fixed_among, keywords, signs, is_same_word};
+ghost use Rattle.query_parse.specs.Symbols.{symbol_of, symbol_number, is_symbol, fixed_text, fixed_among, words, signs, is_same_word};
 
 use crate::token::TokenKind;
 
-/// What a token is to the grammar: a keyword, a token of another form, or a sign.
+/// What a token is to the grammar: a keyword, the word SYSTEM, a token of another form, or a sign.
 #[derive(Clone, Copy, Debug, PartialEq, Eq)]
 pub enum Symbol {
     With,
@@ -42,7 +42,9 @@ pub enum Symbol {
     Cast,
     TryCast,
     Distinct,
-    /// A word that isn't a keyword.
+    /// The word SYSTEM, which is no keyword.
+    System,
+    /// Another word that isn't a keyword.
     Word,
     Bracketed,
     Number,
@@ -68,7 +70,8 @@ pub enum Symbol {
     EndOfText,
 }
 
-const KEYWORDS: [Symbol; 34] = [
+// The keywords, and SYSTEM.
+const WORDS: [Symbol; 35] = [
     Symbol::With,
     Symbol::As,
     Symbol::Union,
@@ -103,6 +106,7 @@ const KEYWORDS: [Symbol; 34] = [
     Symbol::Cast,
     Symbol::TryCast,
     Symbol::Distinct,
+    Symbol::System,
 ];
 
 const SIGNS: [Symbol; 15] = [
@@ -128,7 +132,7 @@ pub fn symbol_at(kind: TokenKind, text: &[u8]) -> Symbol
     ensures { result ≡ symbol_of kind text.now }
 {
     match kind {
-        TokenKind::Word => fixed_among(&KEYWORDS, text, Symbol::Word),
+        TokenKind::Word => fixed_among(&WORDS, text, Symbol::Word),
         TokenKind::Bracketed => Symbol::Bracketed,
         TokenKind::Number => Symbol::Number,
         TokenKind::Text => Symbol::Text,
@@ -156,7 +160,7 @@ pub fn is_same_word(first: &[u8], second: &[u8]) -> bool
     first.eq_ignore_ascii_case(second)
 }
 
-/// The canonical text of a keyword or a sign; of another symbol the empty text.
+/// The canonical text of a keyword, of SYSTEM or of a sign; of another symbol the empty text.
 pub fn fixed_text(symbol: Symbol) -> &'static [u8]
     ensures { result.now ≡ fixed_text symbol }
 {
@@ -195,6 +199,7 @@ pub fn fixed_text(symbol: Symbol) -> &'static [u8]
         Symbol::Cast => b"CAST",
         Symbol::TryCast => b"TRY_CAST",
         Symbol::Distinct => b"DISTINCT",
+        Symbol::System => b"SYSTEM",
         Symbol::Open => b"(",
         Symbol::Close => b")",
         Symbol::Comma => b",",

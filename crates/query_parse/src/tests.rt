@@ -1,6 +1,6 @@
 //! Tokens, trees and refusals of texts, worked out by hand.
 
-use crate::{ParseErr, TokenKind, parse, tokens};
+use crate::{Name, ParseErr, SelectItem, TokenKind, parse, tokens};
 use event_value::Text;
 use std::alloc::Global;
 use std::process::Abort;
@@ -95,24 +95,51 @@ fn limits_hold_up_to_their_edge(rt: HostRuntime) -> Result<(), Fail> {
     Ok(())
 }
 
+/// Whether an item is this: a column, or the time, under a name at its place.
+fn is_item(item: &SelectItem, is_time: bool, text: &str, place: u32) -> bool {
+    match item {
+        SelectItem::Column(name) => !is_time && is_name(name, text, place),
+        SelectItem::Time(name) => is_time && is_name(name, text, place),
+    }
+}
+
+fn is_name(name: &Name, text: &str, place: u32) -> bool {
+    name.text.items() == text.as_bytes() && name.place == place
+}
+
 #[test]
 fn a_query_is_read_as_its_tree(rt: HostRuntime) -> Result<(), Fail> {
-    let script = parse(rt.alloc(), b"select a, b1 /**/ into out from--\nsrc")?;
-    assert_eq!(rt; script.items.items().len(), 2);
-    for (name, (text, place)) in script.items.items().iter().zip([("a", 7), ("b1", 10)]) {
-        assert_eq!(rt; name.text.items(), text.as_bytes());
-        assert_eq!(rt; name.place, place);
+    let script = parse(
+        rt.alloc(),
+        b"select a, System.Timestamp() as b1, system /**/ into out from--\nsrc",
+    )?;
+    let wanted = [(false, "a", 7), (true, "b1", 32), (false, "system", 36)];
+    assert_eq!(rt; script.items.items().len(), 3);
+    for (item, (is_time, text, place)) in script.items.items().iter().zip(wanted) {
+        assert!(rt; is_item(item, is_time, text, place), "{text}");
     }
-    assert_eq!(rt; script.output.text.items(), b"out".as_slice());
-    assert_eq!(rt; script.output.place, 23);
-    assert_eq!(rt; script.source.text.items(), b"src".as_slice());
-    assert_eq!(rt; script.source.place, 34);
+    assert!(rt; is_name(&script.output, "out", 53));
+    assert!(rt; is_name(&script.source, "src", 64));
+    assert!(rt; script.stamp.is_none());
+    Ok(())
+}
+
+#[test]
+fn a_stamp_is_named_behind_the_source(rt: HostRuntime) -> Result<(), Fail> {
+    let script = parse(
+        rt.alloc(),
+        b"SELECT a INTO out FROM src timestamp by System",
+    )?;
+    match &script.stamp {
+        None => assert!(rt; false),
+        Some(name) => assert!(rt; is_name(name, "System", 40)),
+    }
     Ok(())
 }
 
 #[test]
 fn a_refusal_stands_at_its_place(rt: HostRuntime) -> Result<(), Fail> {
-    let cases: [(&[u8], ParseErr); 12] = [
+    let cases: [(&[u8], ParseErr); 20] = [
         (b"SELECT a b c INTO out FROM src", ParseErr::Expected(9)),
         (b"SELECT a INTO out FROM", ParseErr::Expected(22)),
         (b"", ParseErr::Expected(0)),
@@ -125,6 +152,32 @@ fn a_refusal_stands_at_its_place(rt: HostRuntime) -> Result<(), Fail> {
         (b"? \xff", ParseErr::Utf8(2)),
         (b"\xff", ParseErr::Utf8(0)),
         (b"SELECT FROM ?", ParseErr::Token(12)),
+        (b"SELECT a.b AS c INTO out FROM src", ParseErr::Expected(8)),
+        (
+            b"SELECT System.b() AS c INTO out FROM src",
+            ParseErr::Expected(14),
+        ),
+        (
+            b"SELECT System.Timestamp AS c INTO out FROM src",
+            ParseErr::Expected(24),
+        ),
+        (
+            b"SELECT System.Timestamp() INTO out FROM src",
+            ParseErr::Expected(26),
+        ),
+        (b"SELECT a AS b INTO out FROM src", ParseErr::Expected(9)),
+        (
+            b"SELECT a INTO out FROM src TIMESTAMP",
+            ParseErr::Expected(36),
+        ),
+        (
+            b"SELECT a INTO out FROM src TIMESTAMP BY t OVER d",
+            ParseErr::Expected(42),
+        ),
+        (
+            b"SELECT a INTO out FROM src TIMESTAMP t",
+            ParseErr::Expected(37),
+        ),
     ];
     for (text, wanted) in cases {
         match parse(rt.alloc(), text) {
