@@ -1,72 +1,103 @@
 //! The text of a preview.
 
-ghost use Rattle.std.specs.Prelude.{◌≡◌, ◌++◌, ◌<◌, ◌^◌, IfOk, OnOk, length};
-ghost use Rattle.jobs_top.specs.Preview.{preview_text, rows_text, drops_text, column_names};
+ghost use Rattle.std.specs.Prelude.{◌≡◌, ◌∷◌, ◌++◌, ◌<◌, ◌^◌, IfOk, OnOk, List};
+ghost use Rattle.query_parse.specs.declared.script.SelectItem.{SelectItem as Item};
+ghost use Rattle.jobs_top.specs.Judged.{events_of, drops_of};
+ghost use Rattle.jobs_top.specs.Preview.{preview_text, rows_text, drops_text};
+ghost use Rattle.jobs_top.specs.Selected.{output_names, row_values};
 
-use event_value::{Copies, Dropped, Item, Memory, Seq, Text, push_dropped, push_row};
-use query_parse::Script;
+use crate::fields::output_names;
+use crate::judged::Judged;
+use event_value::{Copies, Dropped, Event, Memory, Seq, Text, Value, push_dropped, push_row};
+use query_parse::{Script, SelectItem};
 use std::alloc::Global;
+use tick_time::Moment;
 
 /// The output with its rows, and the dropped records.
-pub fn print_preview(
-    alloc: Global,
-    script: &Script,
-    columns: &[Text],
-    items: &[Item],
-) -> Result<Text, Memory>
-    requires columns { columns.now ≡ column_names script.now }
-    requires few { length items.now < 2 ^ 32 }
-    ensures { IfOk result (λ text. text ≡ preview_text script.now items.now) }
+pub fn print_preview(alloc: Global, script: &Script, judged: &Judged) -> Result<Text, Memory>
+    ensures { IfOk result (λ text. text ≡ preview_text script.now judged.now.events judged.now.drops) }
 {
+    let names = output_names(alloc, script.items.items())?;
     let mut text = Text::empty(alloc);
     text.extend(b"output ")?;
     text.extend(script.output.text.items())?;
     text.push(b'\n')?;
-    push_rows(&mut text, columns, items)?;
+    push_rows(
+        alloc,
+        &mut text,
+        names.items(),
+        script,
+        judged.events.items(),
+    )?;
     text.extend(b"drops\n")?;
-    push_drops(&mut text, script.source.text.items(), items)?;
+    push_drops(&mut text, script.source.text.items(), judged.drops.items())?;
     Ok(text)
 }
 
-fn push_rows(out: &mut Text, columns: &[Text], items: &[Item]) -> Result<(), Memory>
-    ensures { OnOk result (out.new ≡ out.old ++ rows_text columns.now items.now) }
+fn push_rows(
+    alloc: Global,
+    out: &mut Text,
+    names: &[Text],
+    script: &Script,
+    events: &[Event],
+) -> Result<(), Memory>
+    requires { names.now ≡ output_names script.now.items }
+    ensures { OnOk result (out.new ≡ out.old ++ rows_text script.now events.now) }
 {
+    for event in events {
+        let row = row_of(
+            alloc,
+            script.items.items(),
+            event.time,
+            event.values.items(),
+        )?;
+        push_row(out, names, row.items())?;
+        out.push(b'\n')?;
+    }
+    Ok(())
+}
+
+/// The row of a record with these values at this time.
+fn row_of(
+    alloc: Global,
+    items: &[SelectItem],
+    time: Moment,
+    values: &[Value],
+) -> Result<Seq<Value>, Memory>
+    ensures { IfOk result (λ row. row ≡ row_values items.now time values.now) }
+{
+    let mut row = Seq::empty(alloc);
+    let mut rest = values;
     for item in items {
-        if let Item::Good { values, .. } = item {
-            push_row(out, columns, values.items())?;
-            out.push(b'\n')?;
-        }
+        let (value, behind) = first_value(item, time, rest)?;
+        row.push(value)?;
+        rest = behind;
     }
-    Ok(())
+    Ok(row)
 }
 
-fn push_drops(out: &mut Text, input: &[u8], items: &[Item]) -> Result<(), Memory>
-    requires { length items.now < 2 ^ 32 }
-    ensures { OnOk result (out.new ≡ out.old ++ drops_text input.now 0 items.now) }
+/// The value of an item, and the values that are left.
+fn first_value<'a>(
+    item: &SelectItem,
+    time: Moment,
+    values: &'a [Value],
+) -> Result<(Value, &'a [Value]), Memory>
+    ensures { IfOk result (λ first. (items : List Item)
+        → row_values (item.now ∷ items) time values.now ≡ first.0 ∷ row_values items time first.1.now) }
 {
-    for (index, item) in items.iter().enumerate() {
-        if let Item::Bad(rule) = item {
-            let dropped = Dropped {
-                stream: 0,
-                partition: 0,
-                segment: 0,
-                index: index as u32,
-                rule: *rule,
-            };
-            push_dropped(out, input, &dropped)?;
-            out.push(b'\n')?;
-        }
+    match (item, values) {
+        (SelectItem::Time(_), _) => Ok((Value::Moment(time), values)),
+        (SelectItem::Column(_), []) => Ok((Value::Null, values)),
+        (SelectItem::Column(_), [value, rest @ ..]) => Ok((value.copy()?, rest)),
     }
-    Ok(())
 }
 
-/// The names of a query's columns.
-pub fn columns_of(alloc: Global, script: &Script) -> Result<Seq<Text>, Memory>
-    ensures { IfOk result (λ names. names ≡ column_names script.now) }
+fn push_drops(out: &mut Text, input: &[u8], drops: &[Dropped]) -> Result<(), Memory>
+    ensures { OnOk result (out.new ≡ out.old ++ drops_text input.now drops.now) }
 {
-    let mut names = Seq::empty(alloc);
-    for name in script.items.items() {
-        names.push(name.text.copy()?)?;
+    for dropped in drops {
+        push_dropped(out, input, dropped)?;
+        out.push(b'\n')?;
     }
-    Ok(names)
+    Ok(())
 }

@@ -5,14 +5,17 @@ ghost use Rattle.outside.specs.Faults.{HasRisen};
 ghost use Rattle.outside.specs.Segment.{IsWithin};
 ghost use Rattle.jobs_top.specs.Answers.{Asks, AsksPrefixOf};
 ghost use Rattle.jobs_top.specs.Failures.{names_up_to};
-ghost use Rattle.jobs_top.specs.Preview.{IsPreview, HoldsScript, HoldsNoScript};
+ghost use Rattle.jobs_top.specs.Preview.{IsPreview, IsPreviewOf, HoldsScript, HoldsNoScript};
 ghost use Rattle.jobs_top.specs.Preview.{query_segment, file_items, segment_items, max_segment};
 ghost use Rattle.jobs_top.specs.ScriptAnswer.{IsScriptAnswer};
+ghost use Rattle.jobs_top.specs.Selected.{fields_of};
 ghost use Rattle.jobs_top.specs.WordsView.{names_in};
 
 use crate::failure::{Document, Failure};
+use crate::fields::{Fields, fields_of};
 use crate::json_lines::json_items;
-use crate::preview::{columns_of, print_preview};
+use crate::judged::judge;
+use crate::preview::print_preview;
 use crate::words::PreviewWords;
 use event_value::{Item, Memory, Rule, Seq, Text};
 use outside::{Files, ReadErr, Segment, read_file};
@@ -43,9 +46,24 @@ pub fn preview<F: Files>(
         → Asks (names_up_to document (names_in words.now)) (F.known files.old) (F.known files.new) }
 {
     let script = read_query(alloc, files, words)?;
-    let columns = columns_of(alloc, &script)?;
-    let items = read_items(alloc, files, columns.items(), words)?;
-    Ok(print_preview(alloc, &script, columns.items(), items.items())?)
+    let fields = fields_of(alloc, &script)?;
+    let items = read_items(alloc, files, &fields, words)?;
+    Ok(preview_of(alloc, &script, &fields, items.items())?)
+}
+
+/// The preview of a query over these items.
+fn preview_of(
+    alloc: Global,
+    script: &Script,
+    fields: &Fields,
+    items: &[Item],
+) -> Result<Text, Memory>
+    requires fields { fields.now ≡ fields_of script.now }
+    requires few { length items.now ≤ max_segment }
+    ensures { IfOk result (IsPreviewOf script.now items.now) }
+{
+    let judged = judge(alloc, script, fields.columns.items().len(), items)?;
+    print_preview(alloc, script, &judged)
 }
 
 fn read_query<F: Files>(
@@ -91,11 +109,11 @@ fn script_in(alloc: Global, segment: &Segment) -> Result<Script, Failure>
 fn read_items<F: Files>(
     alloc: Global,
     files: &mut F,
-    columns: &[Text],
+    fields: &Fields,
     words: &PreviewWords<'_>,
 ) -> Result<Seq<Item>, Failure>
     ensures items { IfOk result (λ items.
-        IfSome (F.known files.old) (λ known. items ≡ file_items columns.now known (names_in words.now))) }
+        IfSome (F.known files.old) (λ known. items ≡ file_items fields.now known (names_in words.now))) }
     ensures few { IfOk result (λ items. length items ≤ max_segment) }
     ensures asked { AsksPrefixOf (words.now.file.now ∷ []) (F.known files.old) (F.known files.new) }
     ensures accepted { (error : _) → result ≡ Err (Failure.Query error) → ⊥ }
@@ -106,20 +124,20 @@ fn read_items<F: Files>(
         → (document ≡ Document.Records) × Asks (words.now.file.now ∷ []) (F.known files.old) (F.known files.new) }
 {
     match read_file(alloc, files, words.file, MAX_SEGMENT) {
-        Ok(segment) => Ok(items_in(alloc, columns, &segment)?),
+        Ok(segment) => Ok(items_in(alloc, fields, &segment)?),
         Err(ReadErr::Fault) => Err(Failure::Read(Document::Records)),
         Err(ReadErr::Memory) => Err(Failure::Memory),
     }
 }
 
 /// The items of a segment, or one bad item where it is too long.
-fn items_in(alloc: Global, columns: &[Text], segment: &Segment) -> Result<Seq<Item>, Memory>
+fn items_in(alloc: Global, fields: &Fields, segment: &Segment) -> Result<Seq<Item>, Memory>
     requires { IsWithin max_segment segment.now }
-    ensures items { IfOk result (λ items. items ≡ segment_items columns.now segment.now) }
+    ensures items { IfOk result (λ items. items ≡ segment_items fields.now segment.now) }
     ensures few { IfOk result (λ items. length items ≤ max_segment) }
 {
     match segment {
-        Segment::Bytes(bytes) => json_items(alloc, columns, bytes.items()),
+        Segment::Bytes(bytes) => json_items(alloc, fields, bytes.items()),
         Segment::TooLong => {
             let mut items = Seq::empty(alloc);
             items.push(Item::Bad(Rule::SegmentTooLong))?;

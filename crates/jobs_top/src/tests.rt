@@ -128,20 +128,25 @@ fn gives(alloc: Global, records: &[u8], row: &str, rule: &str) -> Result<bool, M
 #[test]
 fn a_record_is_dropped_by_the_first_rule_that_it_breaks(rt: HostRuntime) -> Result<(), Fail> {
     let rows = [
-        ("{\"a\":1.5,\"b\":1}\n", "", "Number"),
-        ("{\"a\":9223372036854775808}\n", "", "Number"),
-        ("{\"a\":[1],\"b\":1.5}\n", "", "Field"),
-        ("{\"a\":null,\"b\":{\"c\":1}}\n", "", "Field"),
+        ("{\"a\":1.5,\"b\":1}\n", "", "Enqueued"),
+        (
+            "{\"a\":[],\"EventEnqueuedUtcTime\":1704067200}\n",
+            "",
+            "Enqueued",
+        ),
+        (
+            "{\"a\":1,\"EventEnqueuedUtcTime\":\"2024-02-30\"}\n",
+            "",
+            "Enqueued",
+        ),
+        ("{\"EventEnqueuedUtcTime\":null}\n", "", "Enqueued"),
         ("[1,2]\n", "", "Syntax"),
         ("{\"a\":1,}\n", "", "Syntax"),
-        ("{\"c\":1}\n", "{\"a\":null,\"b\":null}\n", ""),
-        ("{\"a\":1,\"a\":2,\"b\":true}\n", "{\"a\":2,\"b\":1}\n", ""),
         (
-            "\u{feff}{\"a\":-9223372036854775808,\"b\":\"\\u0001\\n\"}",
-            "{\"a\":-9223372036854775808,\"b\":\"\\u0001\\n\"}\n",
+            "\u{feff}{\"a\":1,\"EventEnqueuedUtcTime\":\"2024-01-01\"}",
+            "{\"a\":1,\"b\":null}\n",
             "",
         ),
-        (" \t\n\r\n{\"a\":1}\r\n", "{\"a\":1,\"b\":null}\n", ""),
         (" \r", "", "Syntax"),
         ("", "", ""),
     ];
@@ -151,10 +156,153 @@ fn a_record_is_dropped_by_the_first_rule_that_it_breaks(rt: HostRuntime) -> Resu
     Ok(())
 }
 
+/// Whether the preview of a record with these members and an enqueue moment is this row, or a drop
+/// by this rule.
+fn members_give(alloc: Global, members: &str, row: &str, rule: &str) -> Result<bool, Memory> {
+    let mut record = Text::of(alloc, b" \t\n\r\n{")?;
+    record.extend(members.as_bytes())?;
+    record.extend(b"\"EventEnqueuedUtcTime\":\"2024-01-01\"}\r\n")?;
+    gives(alloc, record.items(), row, rule)
+}
+
+#[test]
+fn the_members_of_a_record_are_values(rt: HostRuntime) -> Result<(), Fail> {
+    let rows = [
+        ("\"a\":1.5,\"b\":1,", "", "Number"),
+        ("\"a\":9223372036854775808,", "", "Number"),
+        ("\"a\":[1],\"b\":1.5,", "", "Field"),
+        ("\"a\":null,\"b\":{\"c\":1},", "", "Field"),
+        ("\"c\":1,", "{\"a\":null,\"b\":null}\n", ""),
+        ("\"a\":1,\"a\":2,\"b\":true,", "{\"a\":2,\"b\":1}\n", ""),
+        (
+            "\"a\":-9223372036854775808,\"b\":\"\\u0001\\n\",",
+            "{\"a\":-9223372036854775808,\"b\":\"\\u0001\\n\"}\n",
+            "",
+        ),
+        ("\"a\":1,", "{\"a\":1,\"b\":null}\n", ""),
+    ];
+    for (members, row, rule) in rows {
+        assert!(rt; members_give(rt.alloc(), members, row, rule)?);
+    }
+    Ok(())
+}
+
+const EVENT_QUERY: &str = "SELECT System.Timestamp() AS w, a INTO out FROM src TIMESTAMP BY t";
+
+/// Whether a query over these records, of one a line, prints these lines behind `output out`.
+fn prints(alloc: Global, query: &str, records: &str, lines: &str) -> Result<bool, Memory> {
+    let mut expected = Text::of(alloc, b"output out\n")?;
+    expected.extend(lines.as_bytes())?;
+    let (query, records) = (query.as_bytes(), records.as_bytes());
+    ends(
+        alloc,
+        &WORDS,
+        query,
+        records,
+        Status::Done,
+        expected.items(),
+    )
+}
+
+const STAMPED: &str =
+    "{\"a\":1,\"t\":\"2024-01-01T12:00:20Z\",\"EventEnqueuedUtcTime\":\"2024-01-01T12:00:20Z\"}
+{\"a\":2,\"t\":\"2024-01-01T12:00:00Z\",\"EventEnqueuedUtcTime\":\"2024-01-01T12:00:20Z\"}
+{\"a\":3,\"EventEnqueuedUtcTime\":\"2024-01-01T12:00:21Z\"}
+";
+
+const STAMPED_PREVIEW: &str = "{\"w\":\"2024-01-01T12:00:20.0000000Z\",\"a\":1}
+{\"w\":\"2024-01-01T12:00:20.0000000Z\",\"a\":2}
+drops
+{\"input\":\"src\",\"partition\":0,\"segment\":0,\"index\":2,\"rule\":\"NoTime\"}
+";
+
+#[test]
+fn a_late_record_is_adjusted_and_one_without_a_stamp_is_dropped(
+    rt: HostRuntime,
+) -> Result<(), Fail> {
+    assert!(rt; prints(rt.alloc(), EVENT_QUERY, STAMPED, STAMPED_PREVIEW)?);
+    Ok(())
+}
+
+/// A record that was enqueued at noon, with a member `t`.
+fn at_noon(alloc: Global, stamp: &str) -> Result<Text, Memory> {
+    let mut record = Text::of(
+        alloc,
+        b"{\"EventEnqueuedUtcTime\":\"2024-01-01T12:00:00Z\",\"t\":",
+    )?;
+    record.extend(stamp.as_bytes())?;
+    record.extend(b"}")?;
+    Ok(record)
+}
+
+/// Whether one record that was enqueued at noon with this stamp gives the time, or is dropped by the
+/// rule.
+fn stamp_gives(alloc: Global, stamp: &str, row: &str, rule: &str) -> Result<bool, Memory> {
+    let expected = preview_of(alloc, row, rule)?;
+    ends(
+        alloc,
+        &WORDS,
+        b"SELECT system.timestamp() AS w INTO out FROM src TIMESTAMP BY t",
+        at_noon(alloc, stamp)?.items(),
+        Status::Done,
+        expected.items(),
+    )
+}
+
+#[test]
+fn a_stamp_is_judged_by_the_arrival(rt: HostRuntime) -> Result<(), Fail> {
+    let rows = [
+        (
+            "\"2024-01-01T12:00:00Z\"",
+            "{\"w\":\"2024-01-01T12:00:00.0000000Z\"}\n",
+            "",
+        ),
+        (
+            "\"2024-01-01T11:59:54Z\"",
+            "{\"w\":\"2024-01-01T11:59:55.0000000Z\"}\n",
+            "",
+        ),
+        (
+            "\"2024-01-01T12:05:00Z\"",
+            "{\"w\":\"2024-01-01T12:05:00.0000000Z\"}\n",
+            "",
+        ),
+        ("\"2024-01-01T12:05:00.0000001Z\"", "", "Early"),
+        ("null", "", "NoTime"),
+        ("1704110400", "", "NoTime"),
+        ("\"noon\"", "", "NoTime"),
+    ];
+    for (stamp, row, rule) in rows {
+        assert!(rt; stamp_gives(rt.alloc(), stamp, row, rule)?);
+    }
+    Ok(())
+}
+
+const UNSTAMPED: &str = "{\"a\":1,\"EventEnqueuedUtcTime\":\"2024-01-01T00:00:02Z\"}
+{\"a\":2,\"EventEnqueuedUtcTime\":\"2024-01-01T00:00:01Z\"}
+{\"a\":3,\"EventEnqueuedUtcTime\":\"2024-01-01T00:00:03Z\"}
+";
+
+const UNSTAMPED_PREVIEW: &str = "{\"a\":1,\"w\":\"2024-01-01T00:00:02.0000000Z\"}
+{\"a\":2,\"w\":\"2024-01-01T00:00:02.0000000Z\"}
+{\"a\":3,\"w\":\"2024-01-01T00:00:03.0000000Z\"}
+drops
+";
+
+#[test]
+fn without_a_stamp_a_record_is_kept_at_its_arrival(rt: HostRuntime) -> Result<(), Fail> {
+    let query = "SELECT a, System.Timestamp() AS w INTO out FROM src";
+    assert!(rt; prints(rt.alloc(), query, UNSTAMPED, UNSTAMPED_PREVIEW)?);
+    Ok(())
+}
+
 /// A line of this many bytes, a record whose column `c` is long.
 fn long_line(alloc: Global, length: usize) -> Result<Vec<u8>, Memory> {
-    let mut line = Vec::from_slice(alloc, b"{\"a\":1,\"c\":\"")?;
-    line.resize(length.max(14) - 2, b'x')?;
+    let mut line = Vec::from_slice(
+        alloc,
+        b"{\"a\":1,\"EventEnqueuedUtcTime\":\"2024-01-01\",\"c\":\"",
+    )?;
+    line.resize(length.max(60) - 2, b'x')?;
     line.extend_from_slice(b"\"}")?;
     Ok(line)
 }

@@ -7,4 +7,4 @@ use Rattle.jobs_top.proofs.json_lines.json_items.Goals as goal
 
 pub returns-clause-items : goal.returns-clause-items
 returns-clause-items c =
-    sym (append-nil c.loop-rest.items) ∙ ap (λ rest. c.loop-rest.items ++ flat_map (line_items c.args.columns.now) rest) (sym (lines-none c.loop-rest.rest.now (search rules))) ∙ c.loop-rest.invariant.items
+    sym (append-nil c.loop-rest.items) ∙ ap (λ rest. c.loop-rest.items ++ flat_map (line_items c.args.fields.now) rest) (sym (lines-none c.loop-rest.rest.now (search rules))) ∙ c.loop-rest.invariant.items

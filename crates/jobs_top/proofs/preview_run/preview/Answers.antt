@@ -14,8 +14,8 @@ pub returns-in_err-items-clause-faulty_file : goal.returns-in_err-items-clause-f
 returns-in_err-items-clause-faulty_file g c = λ document is.
     Asks-records document (names_in c.args.words.now) _ _ _ c.in_ok-script.ensures.asked_once (c.in_err-items.ensures.faulty_file document (search rules))
 
-pub returns-in_err-print_preview-clause-asked : goal.returns-in_err-print_preview-clause-asked
-returns-in_err-print_preview-clause-asked g c = AsksPrefixOf-second _ _ _ _ _ c.in_ok-script.ensures.asked_once c.in_ok-items.ensures.asked
+pub returns-in_err-preview_of-clause-asked : goal.returns-in_err-preview_of-clause-asked
+returns-in_err-preview_of-clause-asked g c = AsksPrefixOf-second _ _ _ _ _ c.in_ok-script.ensures.asked_once c.in_ok-items.ensures.asked
 
 pub returns-clause-asked : goal.returns-clause-asked
 returns-clause-asked g c = AsksPrefixOf-second _ _ _ _ _ c.in_ok-script.ensures.asked_once c.in_ok-items.ensures.asked
