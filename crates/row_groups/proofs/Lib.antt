@@ -1,4 +1,5 @@
 pub mod DistinctLemmas
+pub mod ExactSumLemmas
 pub mod GroupLemmas
 pub mod KeyLemmas
 pub mod NumberLemmas

@@ -76,7 +76,8 @@ impl Tally {
 
 // The value of a column, where there is one.
 fn known_at(values: &[Value], column: u16) -> Option<&Value>
-    ensures some { IfSome result (λ value. known_value (value_at column values.now) ≡ Some value.now) }
+    ensures some { IfSome result (λ value.
+        known_value (value_at column values.now) ≡ Some value.now) }
     ensures none { IfNone result (known_value (value_at column values.now) ≡ None) }
 {
     match values.get(column as usize) {
