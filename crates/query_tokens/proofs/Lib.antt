@@ -1,0 +1,5 @@
+pub mod SymbolLemmas
+pub mod NumberLemmas
+pub mod TokensLemmas
+pub mod SpanLemmas
+pub mod LexemeLemmas
