@@ -2,7 +2,8 @@
 //! group of several parts; a choice is an enum. Names, numbers and texts are parts with a place.
 //! Each node has the place of its first byte. A node that holds its own type does so through a
 //! `Boxed` or `Items` of `sqlite_items`, which contracts see as the value and as the list.
-//! What matters: the types themselves, since the grammar, its canonical text and the rules of typing speak of them.
+//! What matters: the types themselves, since the grammar, the canonical text and the rules of
+//! typing speak of them.
 //! It reads no text: query_parse does.
 #![tactic(auto)]
 
