@@ -1,3 +1,7 @@
+pub mod CheckLemmas
 pub mod DocumentLemmas
 pub mod EntryLemmas
 pub mod ItemLemmas
+pub mod RangeLemmas
+pub mod ReadingLemmas
+pub mod WellFormedLemmas

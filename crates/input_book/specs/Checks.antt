@@ -17,8 +17,8 @@ use Rattle.input_book.specs.declared.inputs.Stream.{Stream}
 abbrev pub Check : Type 0
 Check = Result (Unit {0}) InputErr
 
--- the entries of the list at a key, behind those that have passed: each is judged with all before it, and the
--- first that breaks the rule is refused
+-- the entries of the list at a key, behind those that have passed: each is judged with all before it,
+-- and the first that breaks the rule is refused
 abbrev pub each : {A : Type 0} → (List A → A → Check) → List ℕ → List A → List A → Check
 each check list passed [] = Ok tt
 each check list passed (x ∷ xs) = do
@@ -46,7 +46,8 @@ stream_limits before stream = do
 unfoldable pub limits_check : Inputs → Check
 limits_check inputs = do
   _ ← count_check max_streams (codes "stream") (length inputs.streams)
-  each (λ passed stream. stream_limits (partition_count passed) stream) (codes "stream") [] inputs.streams
+  each (λ passed stream. stream_limits (partition_count passed) stream) (codes "stream") []
+      inputs.streams
 
 -- one of these names is this one
 unfoldable pub is_among : List (List ℕ) → List ℕ → Bool

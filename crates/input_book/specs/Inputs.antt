@@ -1,4 +1,4 @@
--- What an inputs document says: its inputs where no cause of refusal stands, and else the first cause.
+-- What an inputs document says: its inputs, or the first cause of its refusal where one stands.
 use Rattle.std.specs.Prelude.{◌≡◌, ℕ, List, length, nat_lt, if◌then◌else◌, Result, Ok, Err}
 use Rattle.input_book.specs.Checks.{limits_check, names_check, order_check}
 use Rattle.input_book.specs.Document.{document}
@@ -9,7 +9,7 @@ use Rattle.input_book.specs.declared.input_err.InputErr.{InputErr}
 use Rattle.input_book.specs.declared.input_err.InputErr.TheVariants.{Toml, TooLong}
 use Rattle.input_book.specs.declared.inputs.Inputs.{Inputs}
 
--- a document that isn't too long: its text, its tables in their order, and then limits, names and moments
+-- a document that isn't too long: its text, its tables, and then limits, names and moments
 unfoldable pub inputs_of_short : List ℕ → Result Inputs InputErr
 inputs_of_short bytes = do
   root ← ok_or Toml (document bytes)
@@ -21,7 +21,8 @@ inputs_of_short bytes = do
 
 -- what a document says
 unfoldable pub inputs_of : List ℕ → Result Inputs InputErr
-inputs_of bytes = if nat_lt max_document (length bytes) then Err TooLong else inputs_of_short bytes
+inputs_of bytes =
+    if nat_lt max_document (length bytes) then Err TooLong else inputs_of_short bytes
 
 -- the inputs are those of a document
 abbrev pub IsAccepted : Inputs → Type 0

@@ -7,5 +7,6 @@ pub mod Ranges
 pub mod Tables
 pub mod Checks
 pub mod Inputs
+pub mod Laws
 -- inside the crate
 pub mod Key

@@ -30,10 +30,15 @@ default_policy = record {
 abbrev pub seconds_at : List ℕ → ℤ → ℕ → Members → Result ℤ InputErr
 seconds_at key default most ms = optional key default (value_of as_integer (seconds_to most)) ms
 
+-- the keys of the policies
+abbrev pub policy_keys : List (List ℕ)
+policy_keys =
+    codes "late_seconds" ∷ codes "disorder_seconds" ∷ codes "action" ∷ codes "skew_seconds" ∷ []
+
 -- the policies
 unfoldable pub policy_of : Members → Result Policy InputErr
 policy_of ms = do
-  _ ← only (codes "late_seconds" ∷ codes "disorder_seconds" ∷ codes "action" ∷ codes "skew_seconds" ∷ []) ms
+  _ ← only policy_keys ms
   late ← seconds_at (codes "late_seconds") default_policy.late max_late ms
   disorder ← seconds_at (codes "disorder_seconds") default_policy.disorder max_disorder ms
   adjust ← optional (codes "action") default_policy.adjust (text_of action_of) ms
@@ -80,7 +85,8 @@ partition_of ms = do
 
 -- the keys of a stream
 abbrev pub stream_keys : List (List ℕ)
-stream_keys = codes "name" ∷ codes "format" ∷ codes "delimiter" ∷ codes "columns" ∷ codes "partition" ∷ []
+stream_keys =
+    codes "name" ∷ codes "format" ∷ codes "delimiter" ∷ codes "columns" ∷ codes "partition" ∷ []
 
 -- a stream
 unfoldable pub stream_of : Members → Result Stream InputErr
@@ -88,7 +94,12 @@ stream_of ms = do
   _ ← only stream_keys ms
   source ← source_of ms
   partitions ← needed (codes "partition") (list_of some_items (table_of partition_of)) ms
-  Ok (record { name = source.name; format = source.format; columns = source.columns; partitions = partitions })
+  Ok (record {
+    name = source.name;
+    format = source.format;
+    columns = source.columns;
+    partitions = partitions;
+  })
 
 -- the root table
 unfoldable pub root_of : Members → Result Inputs InputErr

@@ -6,8 +6,9 @@ ghost use Rattle.input_book.specs.declared.input_err.InputErr.TheVariants.{Memor
 use event_value::{Copies, Text};
 use std::alloc::{AllocError, AllocFailed};
 
-/// The first cause for which an inputs document is refused, in the order in which causes are sought.
-/// A key is the path of a place in the document, as `stream[0].partition[1].segments[2].through`.
+/// The first cause of a document's refusal: `TooLong`, `Toml`, then `Unknown`, `Missing`, `Shape` and
+/// `Range` where they stand in the tables, then `TooMany`, `Twice`, `ThroughOrder`, `EffectiveOrder`.
+/// A key is a path in the document, as `stream[0].partition[1].segments[2].through`.
 #[derive(Debug, Drop, PartialEq, Eq)]
 pub enum InputErr {
     /// The text is no TOML.

@@ -1,10 +1,9 @@
 //! The inputs document of a job: which streams it reads, and by which policies.
-//! `read_inputs` gives the `Inputs` that a document says, or its first cause of refusal with the key
-//! where it stands.
+//! `read_inputs` gives the `Inputs` that a document says, or its first cause of refusal.
 //! What matters: `read_inputs`, clauses `ok` and `err`: the inputs exactly where no cause stands, and
-//! else the first one.
-//! The meaning: specs/Inputs.antt, over specs/Tables.antt (a line a key) and specs/Checks.antt (limits,
-//! names and the order of moments), in the words of specs/Readers.antt and specs/Ranges.antt.
+//! else the first one with its key; and laws.rt: accepted inputs are well formed.
+//! The meaning: specs/Inputs.antt, over specs/Tables.antt (a line a key) and specs/Checks.antt
+//! (limits, names, the order of moments), in the words of specs/Readers.antt and specs/Ranges.antt.
 //! It asks for no file: job_core does.
 #![tactic(auto)]
 
@@ -13,6 +12,7 @@ mod document;
 mod input_err;
 mod inputs;
 mod key;
+mod laws;
 mod limit_check;
 mod limits;
 mod lists;
@@ -33,4 +33,5 @@ mod texts;
 
 pub use input_err::InputErr;
 pub use inputs::{Inputs, Partition, Reference, SegmentName, SnapshotName, Stream};
+pub use laws::accepted_inputs_are_well_formed;
 pub use reading::read_inputs;

@@ -21,7 +21,8 @@ pub fn member_of<'t>(table: &'t Table, key: &str) -> Option<&'t Value>
 
 // The value of a key that has to be there.
 pub fn present<'t>(alloc: Global, table: &'t Table, key: &str) -> Result<&'t Value, InputErr>
-    ensures ok { IfOk result (λ value. present key.now (table_view table.now) ≡ Ok (view value.now)) }
+    ensures ok { IfOk result (λ value.
+        present key.now (table_view table.now) ≡ Ok (view value.now)) }
     ensures err { IfErr result (IsRefusal (present key.now (table_view table.now))) }
 {
     match member_of(table, key) {

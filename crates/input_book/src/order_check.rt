@@ -36,7 +36,8 @@ fn check_segments(alloc: Global, segments: &[SegmentName]) -> Result<(), InputEr
 }
 
 fn check_partitions(alloc: Global, partitions: &[Partition]) -> Result<(), InputErr>
-    ensures ok { IfOk result (λ x. each (λ _ p. partition_order p) (codes "partition") [] partitions.now ≡ Ok x) }
+    ensures ok { IfOk result (λ x.
+        each (λ _ p. partition_order p) (codes "partition") [] partitions.now ≡ Ok x) }
     ensures err { IfErr result (IsRefusal
         (each (λ _ p. partition_order p) (codes "partition") [] partitions.now)) }
 {

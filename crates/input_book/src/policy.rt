@@ -52,7 +52,8 @@ fn seconds_at(
 ) -> Result<i64, InputErr>
     ensures ok { IfOk result (λ ticks.
         seconds_at key.now default most (table_view table.now) ≡ Ok ticks) }
-    ensures err { IfErr result (IsRefusal (seconds_at key.now default most (table_view table.now))) }
+    ensures err { IfErr result (IsRefusal
+        (seconds_at key.now default most (table_view table.now))) }
 {
     match member_of(table, key) {
         None => Ok(default),

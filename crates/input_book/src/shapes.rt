@@ -29,7 +29,8 @@ pub fn text_in<'t>(alloc: Global, key: Key<'_>, value: &'t Value) -> Result<&'t 
 pub fn number_in(alloc: Global, key: Key<'_>, value: &Value) -> Result<i64, InputErr>
     ensures ok { IfOk result (λ number.
         typed as_integer (key_text key.entry) (view value.now) ≡ Ok number) }
-    ensures err { IfErr result (IsRefusal (typed as_integer (key_text key.entry) (view value.now))) }
+    ensures err { IfErr result (IsRefusal
+        (typed as_integer (key_text key.entry) (view value.now))) }
 {
     match value.as_integer() {
         Some(number) => Ok(number),

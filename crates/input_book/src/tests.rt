@@ -1,6 +1,6 @@
 //! Documents, each with its first cause of refusal and the key where it stands, worked out by hand.
-//! A case for a key goes to keys.rt, one for the length of a list or a text to lengths.rt, and one for
-//! what an accepted document gives to whole.rt.
+//! A case for a key goes to keys.rt, one for the length of a list or a text to lengths.rt, and one
+//! for what an accepted document gives to whole.rt.
 
 mod keys;
 mod lengths;
@@ -44,8 +44,8 @@ fn check(rt: &impl Abort, alloc: Global, document: &[u8], wanted: &str) -> Resul
     Ok(())
 }
 
-/// Asserts each line of a table: what stands between this front and this back of a document, and what
-/// the document is answered with.
+/// Asserts each line of a table: what stands between this front and this back of a document, and
+/// what the document is answered with.
 fn check_lines(
     rt: &impl Abort,
     alloc: Global,
