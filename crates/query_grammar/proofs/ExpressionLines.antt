@@ -18,7 +18,7 @@ use Rattle.query_tree.specs.declared.name.TypeName.{TypeName}
 use Rattle.query_tree.specs.declared.expr.Expr.{Expr}
 use Rattle.query_tree.specs.declared.expr.And.{And}
 use Rattle.query_tree.specs.declared.expr.Not.{Not}
-use Rattle.query_tree.specs.declared.expr.Not.TheVariants as not
+use Rattle.query_tree.specs.declared.expr.Not.TheVariants as nots
 use Rattle.query_tree.specs.declared.expr.Pred.{Pred}
 use Rattle.query_tree.specs.declared.expr.PredRest.{PredRest}
 use Rattle.query_tree.specs.declared.expr.Sum.{Sum}
@@ -304,7 +304,7 @@ negation_fits l m r g = fits_tree negation_from (opens_fits symbol.Not (λ l'. l
 pub not_fits : {P : Type 0} (l m : Inside) (r : InsideReaders) → InsideFits P l m r → Fits Not P (not_rule l) (not_rule m) expr_symbols pred_goes_on false (read_not r)
 unfolding not_rule read_not
 not_fits l m r g =
-    fits_sets expr_symbols pred_goes_on refl refl (fits_or_else (negation_fits l m r g) (fits_tree not.Pred (pred_fits l m r g)) refl refl)
+    fits_sets expr_symbols pred_goes_on refl refl (fits_or_else (negation_fits l m r g) (fits_tree nots.Pred (pred_fits l m r g)) refl refl)
 
 pub and_more_fits : {P : Type 0} (l m : Inside) (r : InsideReaders) → InsideFits P l m r → Fits Not P (and_more l) (and_more m) (one symbol.And) pred_goes_on false (read_and_more r)
 unfolding and_more read_and_more

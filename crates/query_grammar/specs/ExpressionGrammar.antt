@@ -20,7 +20,7 @@ use Rattle.query_tree.specs.declared.expr.CastWord.TheVariants.{Cast, TryCast}
 use Rattle.query_tree.specs.declared.expr.Expr.{Expr, roll-Expr}
 use Rattle.query_tree.specs.declared.expr.And.{And}
 use Rattle.query_tree.specs.declared.expr.Not.{Not}
-use Rattle.query_tree.specs.declared.expr.Not.TheVariants as not
+use Rattle.query_tree.specs.declared.expr.Not.TheVariants as nots
 use Rattle.query_tree.specs.declared.expr.Pred.{Pred, roll-Pred}
 use Rattle.query_tree.specs.declared.expr.PredRest.{PredRest}
 use Rattle.query_tree.specs.declared.expr.PredRest.TheVariants as rest
@@ -308,11 +308,11 @@ unfoldable pub pred : Inside → Rule Pred
 pred l = tree pred_from (placed (both (sum l) (perhaps (pred_rest l))))
 
 abbrev pub negation_from : Lexeme × Not → Not
-negation_from parts = not.Negation parts.0.place parts.1
+negation_from parts = nots.Negation parts.0.place parts.1
 
 -- NOT not | pred
 unfoldable pub not_rule : Inside → Rule Not
-not_rule l = or_else (tree negation_from (opens l symbol.Not l.not)) (tree not.Pred (pred l))
+not_rule l = or_else (tree negation_from (opens l symbol.Not l.not)) (tree nots.Pred (pred l))
 
 abbrev pub and_from : ℕ × (Not × List Not) → And
 and_from parts = record { place = parts.0; first = parts.1.0; more = parts.1.1 }

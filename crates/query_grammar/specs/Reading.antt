@@ -18,7 +18,7 @@ use Rattle.query_tree.specs.declared.name.TypeName.{TypeName}
 use Rattle.query_tree.specs.declared.expr.Expr.{Expr}
 use Rattle.query_tree.specs.declared.expr.And.{And}
 use Rattle.query_tree.specs.declared.expr.Not.{Not}
-use Rattle.query_tree.specs.declared.expr.Not.TheVariants as not
+use Rattle.query_tree.specs.declared.expr.Not.TheVariants as nots
 use Rattle.query_tree.specs.declared.expr.Pred.{Pred}
 use Rattle.query_tree.specs.declared.expr.PredRest.{PredRest}
 use Rattle.query_tree.specs.declared.expr.Sum.{Sum}
@@ -240,7 +240,7 @@ unfoldable pub read_negation : InsideReaders → Reader Not
 read_negation l = read_tree negation_from (read_opens l symbol.Not l.not)
 
 unfoldable pub read_not : InsideReaders → Reader Not
-read_not l = read_or_else (one symbol.Not) (read_negation l) (read_tree not.Pred (read_pred l))
+read_not l = read_or_else (one symbol.Not) (read_negation l) (read_tree nots.Pred (read_pred l))
 
 unfoldable pub read_and_more : InsideReaders → Reader Not
 read_and_more l = read_tree second_of (read_both (read_fixed symbol.And) (read_not l))
