@@ -1,0 +1,7 @@
+use Rattle.std.proofs.Common.{◌≡◌, ◌++◌, take}
+use Rattle.std.specs.List.{flat_map}
+use Rattle.query_print.specs.Words.{doubled}
+use Rattle.query_print.proofs.written.push_doubled.Given as goal
+
+abbrev pub invariant-loop-byte : goal.invariant-loop-byte
+invariant-loop-byte l = l.out ≡ l.fn.out ++ flat_map doubled (take l.byte-index l.text)
