@@ -1,0 +1,177 @@
+//! Calls, by the function that their name names.
+
+ghost use Rattle.std.specs.Prelude.{◌≡◌, IfOk};
+ghost use Rattle.query_senses.specs.Reading as spec;
+
+use crate::aggregates::{aggregate, row_count};
+use crate::columns::time_reading;
+use crate::fault::Rule;
+use crate::form::Form;
+use crate::functions::{DateOperation, Function, date_form, function_of};
+use crate::reading::{Reading, formed, refused_reading};
+use crate::scope::Scope;
+use event_value::{AggKind, Memory, Seq};
+use query_tree::Path;
+use std::alloc::Global;
+
+/// What stands before the arguments of a call, or in their place.
+#[derive(Clone, Copy)]
+pub enum Mark {
+    /// Nothing.
+    Plain,
+    /// `*` in the place of arguments.
+    Star,
+    /// DISTINCT before them.
+    Distinct,
+}
+
+/// The arguments of a call.
+#[derive(Drop)]
+pub struct Given {
+    pub mark: Mark,
+    pub parts: Seq<Reading>,
+}
+
+fn unsupported(alloc: Global, place: u32) -> Result<Reading, Memory>
+    ensures { IfOk result (λ reading. reading ≡ spec.unsupported place) }
+{
+    refused_reading(alloc, place, Rule::Unsupported)
+}
+
+fn count_with(
+    alloc: Global,
+    scope: &Scope,
+    place: u32,
+    mark: Mark,
+    parts: &[Reading],
+) -> Result<Reading, Memory>
+    ensures { IfOk result (λ reading. reading ≡ spec.count_with scope.now place mark parts.now) }
+{
+    match mark {
+        Mark::Plain => aggregate(alloc, scope, place, AggKind::Count, parts),
+        Mark::Star => row_count(alloc, scope, place),
+        Mark::Distinct => aggregate(alloc, scope, place, AggKind::CountDistinct, parts),
+    }
+}
+
+fn aggregate_with(
+    alloc: Global,
+    scope: &Scope,
+    place: u32,
+    kind: AggKind,
+    mark: Mark,
+    parts: &[Reading],
+) -> Result<Reading, Memory>
+    ensures { IfOk result (λ reading.
+        reading ≡ spec.aggregate_with scope.now place kind mark parts.now) }
+{
+    match kind {
+        AggKind::Count => count_with(alloc, scope, place, mark, parts),
+        _ => match mark {
+            Mark::Plain => aggregate(alloc, scope, place, kind, parts),
+            Mark::Star => unsupported(alloc, place),
+            Mark::Distinct => unsupported(alloc, place),
+        },
+    }
+}
+
+fn dated(
+    alloc: Global,
+    scope: &Scope,
+    place: u32,
+    operation: DateOperation,
+    parts: &[Reading],
+) -> Result<Reading, Memory>
+    ensures { IfOk result (λ reading. reading ≡ spec.dated scope.now place operation parts.now) }
+{
+    match parts {
+        [] => formed(alloc, scope, place, Form::Unfit, parts),
+        [part, rest @ ..] => formed(alloc, scope, place, date_form(operation, &part.face), rest),
+    }
+}
+
+fn timed(alloc: Global, scope: &Scope, place: u32, parts: &[Reading]) -> Result<Reading, Memory>
+    ensures { IfOk result (λ reading. reading ≡ spec.timed scope.now place parts.now) }
+{
+    match parts {
+        [] => time_reading(alloc, scope, place),
+        [_, ..] => formed(alloc, scope, place, Form::Unfit, parts),
+    }
+}
+
+fn function_with_parts(
+    alloc: Global,
+    scope: &Scope,
+    place: u32,
+    function: Function,
+    parts: &[Reading],
+) -> Result<Reading, Memory>
+    ensures { IfOk result (λ reading.
+        reading ≡ spec.function_with_parts scope.now place function parts.now) }
+{
+    match function {
+        Function::Operation(op) => formed(alloc, scope, place, Form::Apply(op), parts),
+        Function::Dated(operation) => dated(alloc, scope, place, operation, parts),
+        Function::Time => timed(alloc, scope, place, parts),
+        _ => formed(alloc, scope, place, Form::Unknown, parts),
+    }
+}
+
+fn function_with_mark(
+    alloc: Global,
+    scope: &Scope,
+    place: u32,
+    function: Function,
+    mark: Mark,
+    parts: &[Reading],
+) -> Result<Reading, Memory>
+    ensures { IfOk result (λ reading.
+        reading ≡ spec.function_with_mark scope.now place function mark parts.now) }
+{
+    match mark {
+        Mark::Plain => function_with_parts(alloc, scope, place, function, parts),
+        Mark::Star => unsupported(alloc, place),
+        Mark::Distinct => unsupported(alloc, place),
+    }
+}
+
+#[tactic(auto, unfolding(crate::specs::Reading::called_function))]
+fn called_function(
+    alloc: Global,
+    scope: &Scope,
+    place: u32,
+    function: Function,
+    given: &Given,
+) -> Result<Reading, Memory>
+    ensures { IfOk result (λ reading.
+        reading ≡ spec.called_function scope.now place function given.now) }
+{
+    match function {
+        Function::Window => unsupported(alloc, place),
+        Function::Aggregate(kind) => {
+            aggregate_with(alloc, scope, place, kind, given.mark, given.parts.items())
+        }
+        _ => function_with_mark(
+            alloc,
+            scope,
+            place,
+            function,
+            given.mark,
+            given.parts.items(),
+        ),
+    }
+}
+
+/// A call of the function that a path names.
+#[tactic(auto, unfolding(crate::specs::Reading::called))]
+pub fn called(
+    alloc: Global,
+    scope: &Scope,
+    place: u32,
+    path: &Path,
+    given: &Given,
+) -> Result<Reading, Memory>
+    ensures { IfOk result (λ reading. reading ≡ spec.called scope.now place path.now given.now) }
+{
+    called_function(alloc, scope, place, function_of(path), given)
+}
