@@ -1,0 +1,67 @@
+//! `TypeErr`, why a script has no plan.
+
+ghost use Rattle.std.specs.Prelude.{◌≡◌};
+ghost use Rattle.query_type.specs.Refusals.{err_of_fault, no_memory};
+
+use event_value::Memory;
+use query_senses::{Fault, Rule};
+
+/// Why a script has no plan, each but the last with the place of the part that breaks the rule.
+#[derive(Clone, Copy, Debug, PartialEq, Eq)]
+pub enum TypeErr {
+    /// No source has this name.
+    UnknownSource(u32),
+    /// No source in reach has this column.
+    UnknownColumn(u32),
+    /// Two sources in reach have this column.
+    Ambiguous(u32),
+    /// The kinds of the parts don't fit.
+    Kind(u32),
+    /// An aggregate stands where there are no groups.
+    Aggregate(u32),
+    /// A column stands outside the group expressions.
+    NotGrouped(u32),
+    /// The window is none that there is, or there isn't exactly one.
+    Window(u32),
+    /// The bound in time of a join is none that there is.
+    Bound(u32),
+    /// Two mentions of a stream have different stamps.
+    StampTwice(u32),
+    /// A name stands twice.
+    NameTwice(u32),
+    /// A limit is exceeded.
+    TooMany(u32),
+    /// The construct isn't built.
+    Unsupported(u32),
+    /// There was no memory.
+    Memory,
+}
+
+impl From<Memory> for TypeErr {
+    ghost from_gives = { λ _ e. e ≡ no_memory };
+
+    fn from(_: Memory) -> TypeErr {
+        TypeErr::Memory
+    }
+}
+
+/// The refusal of a fault.
+pub fn err_of_fault(fault: Fault) -> TypeErr
+    ensures { result ≡ err_of_fault fault }
+{
+    let place = fault.place;
+    match fault.rule {
+        Rule::UnknownSource => TypeErr::UnknownSource(place),
+        Rule::UnknownColumn => TypeErr::UnknownColumn(place),
+        Rule::Ambiguous => TypeErr::Ambiguous(place),
+        Rule::Kind => TypeErr::Kind(place),
+        Rule::Aggregate => TypeErr::Aggregate(place),
+        Rule::NotGrouped => TypeErr::NotGrouped(place),
+        Rule::Window => TypeErr::Window(place),
+        Rule::Bound => TypeErr::Bound(place),
+        Rule::StampTwice => TypeErr::StampTwice(place),
+        Rule::NameTwice => TypeErr::NameTwice(place),
+        Rule::TooMany => TypeErr::TooMany(place),
+        Rule::Unsupported => TypeErr::Unsupported(place),
+    }
+}
