@@ -1,5 +1,5 @@
 -- What an expression is over the rows and over the groups, made of what its parts are.
-use Rattle.std.specs.Prelude.{ℕ, Bool, true, false, ◌&&◌, ◌==◌, if◌then◌else◌, Option, Some, None, Result, Ok, Err, List, [], ◌∷◌, ◌++◌}
+use Rattle.std.specs.Prelude.{ℕ, Bool, true, ◌&&◌, ◌==◌, if◌then◌else◌, Option, Some, None, Ok, Err, List, [], ◌∷◌, ◌++◌}
 use Rattle.std.specs.Str.{bytes_eq}
 use Rattle.event_value.specs.declared.kind.Kind.{Kind}
 use Rattle.event_value.specs.declared.kind.Kind.TheVariants as kind
@@ -24,7 +24,7 @@ use Rattle.query_senses.specs.declared.form.Form.{Form}
 use Rattle.query_senses.specs.declared.form.Form.TheVariants as form
 use Rattle.query_senses.specs.declared.functions.DateOperation.{DateOperation}
 use Rattle.query_senses.specs.declared.functions.Function.{Function}
-use Rattle.query_senses.specs.declared.functions.Function.TheVariants.{Aggregate, Operation, Dated, Window, Time, Unknown}
+use Rattle.query_senses.specs.declared.functions.Function.TheVariants.{Aggregate, Operation, Dated, Window, Time}
 use Rattle.query_senses.specs.declared.reading.AggregateCall.{AggregateCall}
 use Rattle.query_senses.specs.declared.reading.Face.{Face}
 use Rattle.query_senses.specs.declared.reading.Face.TheVariants as face

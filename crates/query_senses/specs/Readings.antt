@@ -1,5 +1,5 @@
 -- What an expression of a query is: level by level down its tree, with what each part is in its place.
-use Rattle.std.specs.Prelude.{map, ℕ, Bool, true, false, is_some, Option, Some, None, List, [], ◌∷◌, ◌++◌}
+use Rattle.std.specs.Prelude.{map, ℕ, is_some, Option, Some, None, List, [], ◌∷◌, ◌++◌}
 use Rattle.event_value.specs.declared.kind.Kind.TheVariants as kind
 use Rattle.event_value.specs.declared.value.Value.TheVariants as value
 use Rattle.event_value.specs.declared.expr.Op.TheVariants as op

@@ -4,7 +4,6 @@ use Rattle.std.specs.Ordering.{is_eq}
 use Rattle.std.specs.Str.{bytes_eq}
 use Rattle.tick_time.specs.declared.part.Part.{Part}
 use Rattle.tick_time.specs.declared.part.Part.TheVariants as part
-use Rattle.event_value.specs.declared.kind.Kind.{Kind}
 use Rattle.event_value.specs.declared.value.Value.{Value}
 use Rattle.event_value.specs.declared.expr.Op.{Op}
 use Rattle.event_value.specs.declared.expr.Op.TheVariants as op

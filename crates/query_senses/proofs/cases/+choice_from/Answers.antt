@@ -1,7 +1,7 @@
-use Rattle.std.proofs.Common.{◌≡◌, ◌≤◌, ◌-◌, IfOk, Some, length, drop, take, get_or, subst, sym, ap, ◌∙◌}
+use Rattle.std.proofs.Common.{◌≡◌, ◌≤◌, ◌-◌, IfOk, length, drop, take, get_or, subst, sym, ap, ◌∙◌}
 use Rattle.std.proofs.lemmas.List.{take_rest}
 use Rattle.std.specs.Option.{option_copied}
-use Rattle.query_senses.specs.Senses.{branch_of, choice_from}
+use Rattle.query_senses.specs.Senses.{choice_from}
 use Rattle.query_senses.proofs.CaseLemmas.{choice_from-pair}
 use Rattle.query_senses.proofs.cases.+choice_from.Goals as goal
 

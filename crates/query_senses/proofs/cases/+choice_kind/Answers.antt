@@ -1,4 +1,4 @@
-use Rattle.std.proofs.Common.{◌≡◌, ◌≤◌, ◌-◌, length, drop, take, get_or, subst, ap, ◌∙◌}
+use Rattle.std.proofs.Common.{◌≤◌, ◌-◌, length, drop, take, get_or, subst, ap, ◌∙◌}
 use Rattle.std.proofs.lemmas.List.{take_rest}
 use Rattle.query_senses.specs.Senses.{choice_kind}
 use Rattle.query_senses.proofs.CaseLemmas.{choice_kind-pair}
