@@ -22,8 +22,6 @@ mod script_names;
 mod selects;
 mod sources;
 mod stamps;
-#[cfg(test)]
-mod tests;
 mod type_err;
 mod unions;
 mod windows;
