@@ -12,7 +12,7 @@ use Rattle.std.specs.List.Sorted.{IsNonDecreasingBy}
 use Rattle.std.specs.Prelude.{All, AllPairs}
 use Rattle.std.specs.Str.{bytes_eq}
 use Rattle.event_value.specs.declared.kind.Column.{Column}
-use Rattle.input_book.specs.Checks.{Check, each, count_check, partition_limits, partition_count, stream_limits, limits_check, is_among, name_check, column_names, stream_names, names_check, last_through, segment_order, partition_order, stream_order, order_check}
+use Rattle.input_book.specs.Checks.{Check, each, count_check, partition_limits, partition_count, stream_limits, streams_limits, is_among, name_check, column_names, stream_names, streams_names, last_through, segment_order, partition_order, stream_order, order_check}
 use Rattle.input_book.specs.Limits.{max_streams, max_partitions, max_segments, max_columns}
 use Rattle.input_book.specs.Refusals.{entry_key, read_inside}
 use Rattle.input_book.specs.declared.input_err.InputErr.{InputErr}
@@ -25,7 +25,7 @@ use Rattle.input_book.proofs.ReadingLemmas.{bind-then, read_inside-ok, le-true}
 abbrev pub Passes : Check → Type 0
 Passes c = c ≡ Ok tt
 
-if_passes : (b : Bool) (e : InputErr) → Passes (if b then Ok tt else Err e) → b ≡ true
+pub if_passes : (b : Bool) (e : InputErr) → Passes (if b then Ok tt else Err e) → b ≡ true
 if_passes true e h = refl
 if_passes false e h = absurd cc
 
@@ -34,7 +34,7 @@ unless_passes true e h = absurd cc
 unless_passes false e h = refl
 
 -- the first entry passed, and then the others
-each-cons : {A P : Type 0} (check : List A → A → Check) (list : List ℕ) (passed : List A) (x : A) (xs : List A) → each check list passed (x ∷ xs) ≡ Ok tt
+pub each-cons : {A P : Type 0} (check : List A → A → Check) (list : List ℕ) (passed : List A) (x : A) (xs : List A) → each check list passed (x ∷ xs) ≡ Ok tt
     → (check passed x ≡ Ok tt → each check list (passed ++ x ∷ []) xs ≡ Ok tt → P) → P
 each-cons check list passed x xs h next =
     bind-then (read_inside (entry_key list (length passed)) (check passed x)) _ tt h (λ u first rest.
@@ -48,7 +48,7 @@ each-all check P holds list passed (x ∷ xs) h =
     each-cons check list passed x xs h (λ first rest.
     All-cons P x xs (holds passed x first) (each-all check P holds list (passed ++ x ∷ []) xs rest))
 
-count-ok : (most : ℕ) (key : List ℕ) (n : ℕ) → count_check most key n ≡ Ok tt → n ≤ most
+pub count-ok : (most : ℕ) (key : List ℕ) (n : ℕ) → count_check most key n ≡ Ok tt → n ≤ most
 unfolding count_check
 count-ok most key n h = le-true n most (if_passes (nat_le n most) (TooMany key) h)
 
@@ -87,7 +87,7 @@ All-last : {A : Type 0} (P : A → Type 0) (xs : List A) (x : A) → All P (xs +
 All-last P xs x all = subst P (get_or_push xs x x (length xs) refl) (all (length xs) x (omega (arith, length-append xs (x ∷ []))))
 
 -- a name that isn't among these differs from each of them
-is_among-false : {A : Type 0} (f : A → List ℕ) (passed : List A) (name : List ℕ) → is_among (map f passed) name ≡ false → All (λ p. f p ≢ name) passed
+pub is_among-false : {A : Type 0} (f : A → List ℕ) (passed : List A) (name : List ℕ) → is_among (map f passed) name ≡ false → All (λ p. f p ≢ name) passed
 unfolding is_among
 is_among-false f [] name h = All-nil (λ p. f p ≢ name)
 is_among-false f (p ∷ ps) name h =
@@ -95,7 +95,7 @@ is_among-false f (p ∷ ps) name h =
     All-cons (λ q. f q ≢ name) p ps (λ same. false≢true (sym here ∙ (bytes_eq-Decides (f p) name).1 same)) (is_among-false f ps name more)
 
 -- where each entry's name isn't among those before it, no two are the same
-names-apart : {A : Type 0} (f : A → List ℕ) (check : List A → A → Check) → ((passed : List A) (x : A) → check passed x ≡ Ok tt → is_among (map f passed) (f x) ≡ false)
+pub names-apart : {A : Type 0} (f : A → List ℕ) (check : List A → A → Check) → ((passed : List A) (x : A) → check passed x ≡ Ok tt → is_among (map f passed) (f x) ≡ false)
     → (list : List ℕ) (passed xs : List A) → each check list passed xs ≡ Ok tt
     → All (λ x. All (λ p. f p ≢ f x) passed) xs × AllPairs (λ a b. f a ≢ f b) xs
 names-apart f check new list passed [] h = (All-nil _, λ i j d below within. absurd (omega arith))
@@ -140,10 +140,10 @@ pub record KeepsOrder (stream : Stream) : Type 0 where
 pub record KeepsNames (stream : Stream) : Type 0 where
   pub columns : AllPairs (λ a b. a.name ≢ b.name) stream.columns
 
-name-new : (names : List (List ℕ)) (name : List ℕ) → Passes (name_check names name) → is_among names name ≡ false
+pub name-new : (names : List (List ℕ)) (name : List ℕ) → Passes (name_check names name) → is_among names name ≡ false
 name-new names name h = unless_passes (is_among names name) (Twice name) h
 
-columns-named : (columns : List Column) → Passes (each column_names (codes "columns") [] columns) → AllPairs (λ a b. a.name ≢ b.name) columns
+pub columns-named : (columns : List Column) → Passes (each column_names (codes "columns") [] columns) → AllPairs (λ a b. a.name ≢ b.name) columns
 columns-named columns h =
     (names-apart (λ c. c.name) column_names (λ passed c given. name-new (map (λ c. c.name) passed) c.name given) (codes "columns") [] columns h).1
 
@@ -152,23 +152,23 @@ stream-named passed s h =
     bind-then (name_check (map (λ s. s.name) passed) s.name) _ tt h (λ _ first rest.
     (name-new (map (λ s. s.name) passed) s.name first, record { columns = columns-named s.columns rest }))
 
--- what the three checks leave
-pub limits-keep : (inputs : Inputs) → Passes (limits_check inputs)
-    → (length inputs.streams ≤ max_streams) × All KeepsLimits inputs.streams × (partition_count inputs.streams ≤ max_partitions)
-unfolding limits_check
-limits-keep inputs h =
-    bind-then (count_check max_streams (codes "stream") (length inputs.streams)) _ tt h (λ _ count rest.
+-- what the checks leave of the streams
+pub limits-keep : (streams : List Stream) → Passes (streams_limits streams)
+    → (length streams ≤ max_streams) × All KeepsLimits streams × (partition_count streams ≤ max_partitions)
+unfolding streams_limits
+limits-keep streams h =
+    bind-then (count_check max_streams (codes "stream") (length streams)) _ tt h (λ _ count rest.
     let check : List Stream → Stream → Check = λ passed s. stream_limits (partition_count passed) s in (
-      count-ok max_streams (codes "stream") (length inputs.streams) count,
-      each-all check KeepsLimits (λ passed s given. (stream-within (partition_count passed) s given).0) (codes "stream") [] inputs.streams rest,
-      partitions-within (codes "stream") [] inputs.streams (omega arith) rest,
+      count-ok max_streams (codes "stream") (length streams) count,
+      each-all check KeepsLimits (λ passed s given. (stream-within (partition_count passed) s given).0) (codes "stream") [] streams rest,
+      partitions-within (codes "stream") [] streams (omega arith) rest,
     ))
 
-pub names-keep : (inputs : Inputs) → Passes (names_check inputs) → All KeepsNames inputs.streams × AllPairs (λ a b. a.name ≢ b.name) inputs.streams
-unfolding names_check
-names-keep inputs h = (
-  each-all stream_names KeepsNames (λ passed s given. (stream-named passed s given).1) (codes "stream") [] inputs.streams h,
-  (names-apart (λ s. s.name) stream_names (λ passed s given. (stream-named passed s given).0) (codes "stream") [] inputs.streams h).1,
+pub names-keep : (streams : List Stream) → Passes (streams_names streams) → All KeepsNames streams × AllPairs (λ a b. a.name ≢ b.name) streams
+unfolding streams_names
+names-keep streams h = (
+  each-all stream_names KeepsNames (λ passed s given. (stream-named passed s given).1) (codes "stream") [] streams h,
+  (names-apart (λ s. s.name) stream_names (λ passed s given. (stream-named passed s given).0) (codes "stream") [] streams h).1,
 )
 
 pub order-keeps : (inputs : Inputs) → Passes (order_check inputs) → All KeepsOrder inputs.streams

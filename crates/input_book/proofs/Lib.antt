@@ -1,4 +1,5 @@
 pub mod CheckLemmas
+pub mod ReferenceLemmas
 pub mod DocumentLemmas
 pub mod EntryLemmas
 pub mod ItemLemmas

@@ -1,6 +1,6 @@
 -- What an inputs document says: its inputs, or the first cause of its refusal where one stands.
 use Rattle.std.specs.Prelude.{◌≡◌, ℕ, List, length, nat_lt, if◌then◌else◌, Result, Ok, Err}
-use Rattle.input_book.specs.Checks.{limits_check, names_check, order_check}
+use Rattle.input_book.specs.Checks.{effective_order, limits_check, names_check, order_check}
 use Rattle.input_book.specs.Document.{document}
 use Rattle.input_book.specs.Limits.{max_document}
 use Rattle.input_book.specs.Refusals.{◌>>=◌, ok_or}
@@ -17,6 +17,7 @@ inputs_of_short bytes = do
   _ ← limits_check inputs
   _ ← names_check inputs
   _ ← order_check inputs
+  _ ← effective_order inputs
   Ok inputs
 
 -- what a document says

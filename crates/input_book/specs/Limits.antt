@@ -17,6 +17,14 @@ max_partitions = 32
 abbrev pub max_segments : ℕ
 max_segments = 4_096
 
+-- the references of a document
+abbrev pub max_references : ℕ
+max_references = 4
+
+-- the snapshots of all its references
+abbrev pub max_snapshots : ℕ
+max_snapshots = 64
+
 -- the columns of a source
 abbrev pub max_columns : ℕ
 max_columns = 64

@@ -9,7 +9,6 @@ use Rattle.event_value.specs.declared.kind.Format.{Format}
 use Rattle.event_value.specs.declared.kind.Format.TheVariants.{Json, Csv}
 use Rattle.event_value.specs.declared.kind.Kind.{Kind}
 use Rattle.event_value.specs.declared.kind.Kind.TheVariants.{Big, Fixed, Bit, Text as TextKind, Moment as MomentKind}
-use Rattle.input_book.specs.declared.inputs.Reference.{Reference}
 
 -- any value of a type
 abbrev pub any : {A : Type 0} → A → Option A
@@ -66,16 +65,15 @@ format_of word =
     if bytes_eq word (codes "json") then Some Json else
     (if bytes_eq word (codes "csv") then Some (Csv (slice_index delimiters 0)) else None)
 
+abbrev pub is_delimiter : ℕ → Bool
+is_delimiter byte = list_any (λ d. d == byte) delimiters
+
 -- a text that is one of the delimiters
 abbrev pub delimiter_of : List ℕ → Option ℕ
-delimiter_of (byte ∷ []) = if list_any (λ d. d == byte) delimiters then Some byte else None
+delimiter_of (byte ∷ []) = if is_delimiter byte then Some byte else None
 delimiter_of _ = None
 
 -- a format with the delimiter of a text, which CSV alone has
 abbrev pub delimited : Format → List ℕ → Option Format
 delimited (Csv _) text = option_map (λ delimiter. Csv delimiter) (delimiter_of text)
 delimited _ text = None
-
--- references aren't read yet: a list that has any is out of range
-abbrev pub no_references : Items → Option (List Reference)
-no_references ds = if item_count ds == 0 then Some [] else None

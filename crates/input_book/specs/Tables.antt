@@ -1,19 +1,21 @@
 -- The tables of an inputs document, a line a key, in the order in which the keys are read.
 use Rattle.std.specs.Prelude.{ℕ, ℤ, List, [], ◌∷◌, codes, true, false, Result, Ok}
-use Rattle.toml.specs.Data.{Members, as_integer, as_bool, as_array}
+use Rattle.toml.specs.Data.{Members, as_integer, as_bool}
 use Rattle.tick_time.specs.MomentReading.{moment_of}
 use Rattle.event_value.specs.declared.kind.Column.{Column}
 use Rattle.event_value.specs.declared.policy.Policy.{Policy}
 use Rattle.input_book.specs.Limits.{max_name, max_file, max_path, max_late, max_disorder, max_skew}
 use Rattle.input_book.specs.Limits.{default_late, default_disorder, default_skew}
 use Rattle.input_book.specs.Ranges.{any, sized, some_items, items_to, ticks_of, seconds_to}
-use Rattle.input_book.specs.Ranges.{action_of, kind_of, format_of, delimited, no_references}
+use Rattle.input_book.specs.Ranges.{action_of, kind_of, format_of, delimited}
 use Rattle.input_book.specs.Readers.{Reader, value_of, text_of, table_of, list_of, needed, optional, only}
 use Rattle.input_book.specs.Refusals.{◌>>=◌}
 use Rattle.input_book.specs.declared.input_err.InputErr.{InputErr}
 use Rattle.input_book.specs.declared.inputs.Inputs.{Inputs}
 use Rattle.input_book.specs.declared.inputs.Partition.{Partition}
+use Rattle.input_book.specs.declared.inputs.Reference.{Reference}
 use Rattle.input_book.specs.declared.inputs.SegmentName.{SegmentName}
+use Rattle.input_book.specs.declared.inputs.SnapshotName.{SnapshotName}
 use Rattle.input_book.specs.declared.inputs.Stream.{Stream}
 use Rattle.input_book.specs.declared.source.Source.{Source}
 
@@ -101,11 +103,37 @@ stream_of ms = do
     partitions = partitions;
   })
 
+-- a snapshot
+unfoldable pub snapshot_of : Members → Result SnapshotName InputErr
+snapshot_of ms = do
+  _ ← only (codes "file" ∷ codes "effective" ∷ []) ms
+  file ← needed (codes "file") (text_of (sized max_file)) ms
+  effective ← needed (codes "effective") (text_of moment_of) ms
+  Ok (record { file = file; effective = effective })
+
+-- the keys of a reference
+abbrev pub reference_keys : List (List ℕ)
+reference_keys =
+    codes "name" ∷ codes "format" ∷ codes "delimiter" ∷ codes "columns" ∷ codes "snapshots" ∷ []
+
+-- a reference
+unfoldable pub reference_of : Members → Result Reference InputErr
+reference_of ms = do
+  _ ← only reference_keys ms
+  source ← source_of ms
+  snapshots ← needed (codes "snapshots") (list_of any (table_of snapshot_of)) ms
+  Ok (record {
+    name = source.name;
+    format = source.format;
+    columns = source.columns;
+    snapshots = snapshots;
+  })
+
 -- the root table
 unfoldable pub root_of : Members → Result Inputs InputErr
 root_of ms = do
   _ ← only (codes "policy" ∷ codes "stream" ∷ codes "reference" ∷ []) ms
   policy ← optional (codes "policy") default_policy (table_of policy_of) ms
   streams ← needed (codes "stream") (list_of some_items (table_of stream_of)) ms
-  references ← optional (codes "reference") [] (value_of as_array no_references) ms
+  references ← optional (codes "reference") [] (list_of any (table_of reference_of)) ms
   Ok (record { streams = streams; references = references; policy = policy })

@@ -1,4 +1,4 @@
-//! The inputs document of a job: which streams it reads, and by which policies.
+//! The inputs document of a job: which streams and references it reads, and by which policies.
 //! `read_inputs` gives the `Inputs` that a document says, or its first cause of refusal.
 //! What matters: `read_inputs`, clauses `ok` and `err`: the inputs exactly where no cause stands, and
 //! else the first one with its key; and laws.rt: accepted inputs are well formed.
@@ -9,6 +9,7 @@
 
 mod column;
 mod document;
+mod effective_check;
 mod input_err;
 mod inputs;
 mod key;
@@ -23,6 +24,7 @@ mod partition;
 mod parts;
 mod policy;
 mod reading;
+mod reference;
 mod refusals;
 mod root;
 mod shapes;

@@ -12,6 +12,12 @@ pub const MAX_PARTITIONS: usize = 32;
 /// The segments of a partition.
 pub const MAX_SEGMENTS: usize = 4_096;
 
+/// The references of a document.
+pub const MAX_REFERENCES: usize = 4;
+
+/// The snapshots of all its references.
+pub const MAX_SNAPSHOTS: usize = 64;
+
 /// The columns of a source.
 pub const MAX_COLUMNS: usize = 64;
 

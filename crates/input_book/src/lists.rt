@@ -2,11 +2,8 @@
 
 ghost use Rattle.std.specs.Prelude.{◌≡◌, option_map};
 ghost use Rattle.toml.specs.View.{items_view};
-ghost use Rattle.input_book.specs.Ranges.{some_items, items_to, no_references};
+ghost use Rattle.input_book.specs.Ranges.{some_items, items_to};
 
-use crate::Reference;
-use event_value::Seq;
-use std::alloc::Global;
 use toml::Value;
 
 #[tactic(auto, using(crate::proofs::ItemLemmas::item_counts))]
@@ -24,17 +21,6 @@ pub fn items_to(most: usize, items: &[Value]) -> Option<&[Value]>
 {
     if 1 <= items.len() && items.len() <= most {
         Some(items)
-    } else {
-        None
-    }
-}
-
-#[tactic(auto, using(crate::proofs::ItemLemmas::item_counts))]
-pub fn no_references(alloc: Global, items: &[Value]) -> Option<Seq<Reference>>
-    ensures { result ≡ no_references (items_view items.now) }
-{
-    if items.is_empty() {
-        Some(Seq::empty(alloc))
     } else {
         None
     }

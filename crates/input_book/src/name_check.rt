@@ -1,12 +1,13 @@
 //! The names of sources and columns.
 
 ghost use Rattle.std.specs.Prelude.{◌≡◌, [], IfOk, IfErr, Ok, codes, map};
-ghost use Rattle.input_book.specs.Checks.{each, is_among, column_names, stream_names, names_check};
+ghost use Rattle.input_book.specs.Checks.{each, is_among, column_names, stream_names, streams_names};
+ghost use Rattle.input_book.specs.Checks.{names_check, reference_names, references_names};
 ghost use Rattle.input_book.specs.Refusals.{IsRefusal};
 
 use crate::key::Key;
 use crate::refusals::read_inside;
-use crate::{InputErr, Inputs, Stream};
+use crate::{InputErr, Inputs, Reference, Stream};
 use event_value::{Column, Copies};
 use std::alloc::Global;
 
@@ -28,6 +29,18 @@ fn has_stream(streams: &[Stream], name: &[u8]) -> bool
 {
     for stream in streams {
         if stream.name.items() == name {
+            return true;
+        }
+    }
+    false
+}
+
+#[tactic(auto, unfolding(crate::specs::Checks::is_among))]
+fn has_reference(references: &[Reference], name: &[u8]) -> bool
+    ensures { result ≡ is_among (map (λ r. r.name) references.now) name.now }
+{
+    for reference in references {
+        if reference.name.items() == name {
             return true;
         }
     }
@@ -71,6 +84,57 @@ fn check_stream(alloc: Global, passed: &[Stream], stream: &Stream) -> Result<(),
     check_columns(alloc, stream.columns.items())
 }
 
+#[tactic(auto, unfolding(crate::specs::Checks::streams_names))]
+fn check_streams(alloc: Global, streams: &[Stream]) -> Result<(), InputErr>
+    ensures ok { IfOk result (λ x. streams_names streams.now ≡ Ok x) }
+    ensures err { IfErr result (IsRefusal (streams_names streams.now)) }
+{
+    for (index, stream) in streams.iter().enumerate() {
+        let (passed, _) = streams.split_at(index);
+        let checked = check_stream(alloc, passed, stream);
+        read_inside(alloc, Key::Entry("stream", index), checked)?;
+    }
+    Ok(())
+}
+
+// The names of a reference behind all streams and the references that have passed.
+fn check_reference(
+    alloc: Global,
+    streams: &[Stream],
+    passed: &[Reference],
+    reference: &Reference,
+) -> Result<(), InputErr>
+    ensures ok { IfOk result (λ x.
+        reference_names streams.now passed.now reference.now ≡ Ok x) }
+    ensures err { IfErr result (IsRefusal
+        (reference_names streams.now passed.now reference.now)) }
+{
+    if has_stream(streams, reference.name.items()) {
+        return Err(InputErr::Twice(reference.name.copy()?));
+    }
+    if has_reference(passed, reference.name.items()) {
+        return Err(InputErr::Twice(reference.name.copy()?));
+    }
+    check_columns(alloc, reference.columns.items())
+}
+
+#[tactic(auto, unfolding(crate::specs::Checks::references_names))]
+fn check_references(
+    alloc: Global,
+    streams: &[Stream],
+    references: &[Reference],
+) -> Result<(), InputErr>
+    ensures ok { IfOk result (λ x. references_names streams.now references.now ≡ Ok x) }
+    ensures err { IfErr result (IsRefusal (references_names streams.now references.now)) }
+{
+    for (index, reference) in references.iter().enumerate() {
+        let (passed, _) = references.split_at(index);
+        let checked = check_reference(alloc, streams, passed, reference);
+        read_inside(alloc, Key::Entry("reference", index), checked)?;
+    }
+    Ok(())
+}
+
 // No source has the name of one before it, and no column that of one before it in its source.
 #[tactic(auto, unfolding(crate::specs::Checks::names_check))]
 pub fn check_names(alloc: Global, inputs: &Inputs) -> Result<(), InputErr>
@@ -78,10 +142,6 @@ pub fn check_names(alloc: Global, inputs: &Inputs) -> Result<(), InputErr>
     ensures err { IfErr result (IsRefusal (names_check inputs.now)) }
 {
     let streams = inputs.streams.items();
-    for (index, stream) in streams.iter().enumerate() {
-        let (passed, _) = streams.split_at(index);
-        let checked = check_stream(alloc, passed, stream);
-        read_inside(alloc, Key::Entry("stream", index), checked)?;
-    }
-    Ok(())
+    check_streams(alloc, streams)?;
+    check_references(alloc, streams, inputs.references.items())
 }

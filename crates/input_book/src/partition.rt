@@ -22,7 +22,8 @@ use std::alloc::Global;
 use tick_time::{Moment, read_moment};
 use toml::Table;
 
-fn moment_at(alloc: Global, table: &Table, key: &str) -> Result<Moment, InputErr>
+// The moment at a key.
+pub fn moment_at(alloc: Global, table: &Table, key: &str) -> Result<Moment, InputErr>
     ensures ok { IfOk result (λ moment.
         needed key.now (text_of moment_of) (table_view table.now) ≡ Ok moment) }
     ensures err { IfErr result (IsRefusal

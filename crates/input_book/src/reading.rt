@@ -5,6 +5,7 @@ ghost use Rattle.input_book.specs.Inputs.{inputs_of, inputs_of_short};
 ghost use Rattle.input_book.specs.Refusals.{IsRefusal};
 
 use crate::document::read_document;
+use crate::effective_check::check_effective;
 use crate::limit_check::check_limits;
 use crate::limits::MAX_DOCUMENT;
 use crate::name_check::check_names;
@@ -25,6 +26,7 @@ fn read_short(alloc: Global, text: &[u8]) -> Result<Inputs, InputErr>
     check_limits(alloc, &inputs)?;
     check_names(alloc, &inputs)?;
     check_order(alloc, &inputs)?;
+    check_effective(alloc, &inputs)?;
     Ok(inputs)
 }
 

@@ -1,19 +1,16 @@
 //! The root table, and the tables of streams.
 
 ghost use Rattle.std.specs.Prelude.{◌≡◌, [], IfOk, IfErr, Ok};
-ghost use Rattle.toml.specs.Data.{as_array};
 ghost use Rattle.toml.specs.View.{table_view};
-ghost use Rattle.input_book.specs.Ranges.{no_references};
-ghost use Rattle.input_book.specs.Readers.{optional, value_of};
+ghost use Rattle.input_book.specs.Ranges.{any};
+ghost use Rattle.input_book.specs.Readers.{list_of, optional, table_of};
 ghost use Rattle.input_book.specs.Refusals.{IsRefusal};
-ghost use Rattle.input_book.specs.Tables.{root_of, stream_of};
+ghost use Rattle.input_book.specs.Tables.{reference_of, root_of, stream_of};
 
 use crate::key::Key;
-use crate::lists::no_references;
 use crate::members::{member_of, only};
-use crate::parts::{FromTable, parts_at};
+use crate::parts::{FromTable, parts_at, parts_of};
 use crate::policy::policy_at;
-use crate::refusals::ranged;
 use crate::shapes::list_in;
 use crate::source::{Source, source_of};
 use crate::{InputErr, Inputs, Reference, Stream};
@@ -45,17 +42,14 @@ impl FromTable for Stream {
 
 fn references_at(alloc: Global, root: &Table, key: &str) -> Result<Seq<Reference>, InputErr>
     ensures ok { IfOk result (λ references.
-        optional key.now [] (value_of as_array no_references) (table_view root.now)
+        optional key.now [] (list_of any (table_of reference_of)) (table_view root.now)
         ≡ Ok references) }
     ensures err { IfErr result (IsRefusal
-        (optional key.now [] (value_of as_array no_references) (table_view root.now))) }
+        (optional key.now [] (list_of any (table_of reference_of)) (table_view root.now))) }
 {
     match member_of(root, key) {
         None => Ok(Seq::empty(alloc)),
-        Some(value) => {
-            let items = list_in(alloc, Key::Member(key), value)?;
-            ranged(alloc, Key::Member(key), no_references(alloc, items))
-        }
+        Some(value) => parts_of(alloc, key, list_in(alloc, Key::Member(key), value)?),
     }
 }
 

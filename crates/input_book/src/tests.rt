@@ -1,9 +1,10 @@
 //! Documents, each with its first cause of refusal and the key where it stands, worked out by hand.
-//! A case for a key goes to keys.rt, one for the length of a list or a text to lengths.rt, and one
-//! for what an accepted document gives to whole.rt.
+//! A case for a key of a stream goes to keys.rt, one of a reference to references.rt, one for the
+//! length of a list or a text to lengths.rt, and one for what an accepted document gives to whole.rt.
 
 mod keys;
 mod lengths;
+mod references;
 mod whole;
 
 use crate::{InputErr, read_inputs};

@@ -1,4 +1,5 @@
-//! Each key of each table: missing, unknown, of another type, and out of range on both edges.
+//! Each key of the tables of streams: missing, unknown, of another type, and out of range on both
+//! edges. Those of references stand in references.rt.
 
 use super::check_lines;
 use std::test::Fail;
@@ -129,24 +130,4 @@ const PARTITIONS: &str = "
 [{}]}, {name = 't', format = 'csv', columns = [{name = 'a', kind = 'bit'}, {name = 'a', kind = 'bit'}], partition = [{}] => Twice a
 [{segments = [{file = 'f', through = '2024-01-02'}, {file = 'g', through = '2024-01-01'}]}]}, {name = 's', format = 'csv', columns = [{name = 'a', kind = 'bit'}], partition = [{}] => Twice s
 [{segments = [{file = 'f', through = '2024-01-02'}, {file = 'g', through = '2024-01-01'}]}]}, { => Missing stream[1].name
-";
-
-#[test]
-fn references_are_not_read_yet(rt: HostRuntime) -> Result<(), Fail> {
-    let stream =
-        "\nstream = [{name = 's', format = 'csv', columns = [{name = 'a', kind = 'bit'}], partition = [{}]}]";
-    check_lines(&rt, rt.alloc(), "reference = ", stream, REFERENCES)?;
-    check_lines(
-        &rt,
-        rt.alloc(),
-        "reference = ",
-        "\nstream = []",
-        "1 => Range stream",
-    )
-}
-
-const REFERENCES: &str = "
-1 => Shape reference
-[{}] => Range reference
-[] => Inputs
 ";

@@ -1,6 +1,6 @@
 //! What accepted documents give.
 
-use crate::{Inputs, SegmentName, read_inputs};
+use crate::{Inputs, SegmentName, SnapshotName, read_inputs};
 use event_value::{Column, Copies, Format, Kind, Policy};
 use std::alloc::Global;
 use std::process::Abort;
@@ -27,6 +27,11 @@ fn check_column(rt: &impl Abort, column: &Column, name: &str, kind: Kind, path: 
 fn check_segment(rt: &impl Abort, segment: &SegmentName, file: &str, through: i64) {
     assert_eq!(rt; segment.file.items(), file.as_bytes());
     assert_eq!(rt; segment.through.ticks(), through, "{file}");
+}
+
+fn check_snapshot(rt: &impl Abort, snapshot: &SnapshotName, file: &str, effective: i64) {
+    assert_eq!(rt; snapshot.file.items(), file.as_bytes());
+    assert_eq!(rt; snapshot.effective.ticks(), effective, "{file}");
 }
 
 #[test]
@@ -109,5 +114,38 @@ segments = [{file = 'f', through = '1970-01-01T00:00:01Z'}, {file = 'g', through
     };
     check_segment(&rt, f, "f", SECOND);
     check_segment(&rt, g, "g", 325_036_799_999_999_999);
+    Ok(())
+}
+
+#[test]
+fn a_document_with_a_reference(rt: HostRuntime) -> Result<(), Fail> {
+    let document = "[[stream]]
+name = 's'
+format = 'json'
+columns = [{name = 'a', kind = 'bigint'}]
+partition = [{}]
+[[reference]]
+name = 'tariff'
+format = 'csv'
+delimiter = ';'
+columns = [{name = 'k', kind = 'bigint'}, {name = 'price', kind = 'fixed'}]
+snapshots = [{file = 'old.csv', effective = '1970-01-01T00:00:01Z'}, {file = 'new.csv', effective = '1970-01-01T00:00:02Z'}]
+";
+    let inputs = inputs_of(&rt, rt.alloc(), document).copy()?;
+    let [reference] = inputs.references.items() else {
+        panic!(&rt; "one reference");
+    };
+    assert_eq!(rt; reference.name.items(), b"tariff".as_slice());
+    assert_eq!(rt; reference.format, Format::Csv(b';'));
+    let [k, price] = reference.columns.items() else {
+        panic!(&rt; "two columns");
+    };
+    check_column(&rt, k, "k", Kind::Big, &["k"]);
+    check_column(&rt, price, "price", Kind::Fixed, &["price"]);
+    let [old, new] = reference.snapshots.items() else {
+        panic!(&rt; "two snapshots");
+    };
+    check_snapshot(&rt, old, "old.csv", SECOND);
+    check_snapshot(&rt, new, "new.csv", 2 * SECOND);
     Ok(())
 }

@@ -1,7 +1,7 @@
 use Rattle.std.proofs.Common.{◌≡◌, ◌≤◌, [], take, drop, codes}
 use Rattle.input_book.specs.Checks.{each, stream_limits, partition_count}
 use Rattle.input_book.specs.Limits.{max_partitions}
-use Rattle.input_book.proofs.limit_check.check_limits.Given as goal
+use Rattle.input_book.proofs.limit_check.check_streams.Given as goal
 
 abbrev pub invariant-loop-index : goal.invariant-loop-index
 invariant-loop-index l = record {

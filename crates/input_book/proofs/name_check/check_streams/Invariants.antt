@@ -1,6 +1,6 @@
 use Rattle.std.proofs.Common.{◌≡◌, [], take, drop, codes}
 use Rattle.input_book.specs.Checks.{each, stream_names}
-use Rattle.input_book.proofs.name_check.check_names.Given as goal
+use Rattle.input_book.proofs.name_check.check_streams.Given as goal
 
 abbrev pub invariant-loop-index : goal.invariant-loop-index
 invariant-loop-index l =
