@@ -1,11 +1,1 @@
-pub mod SymbolLemmas
-pub mod NumberLemmas
-pub mod TokensLemmas
-pub mod SpanLemmas
-pub mod GrammarLaws
-pub mod ReaderLaws
-pub mod ChoiceLaws
-pub mod Lines
-pub mod QueryLines
-pub mod ReadingLemmas
-pub mod QueryLaws
+pub mod StmtLemmas

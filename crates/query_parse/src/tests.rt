@@ -1,189 +1,22 @@
-//! Tokens, trees and refusals of texts, worked out by hand.
+//! Queries that are read or refused, worked out by hand.
+//! A query that doesn't fit the grammar goes to refusals.rt, one at a limit to limits.rt, and one
+//! that is read, with its values, to forms.rt.
 
-use crate::{Name, ParseErr, SelectItem, TokenKind, parse, tokens};
-use event_value::Text;
+mod forms;
+mod limits;
+mod refusals;
+
+use crate::{ParseErr, parse};
 use std::alloc::Global;
-use std::process::Abort;
-use std::test::Fail;
 
-/// The kinds of a text's tokens with their places, or the refusal.
-fn check_tokens(
-    rt: &impl Abort,
-    alloc: Global,
-    text: &str,
-    wanted: Result<&[(TokenKind, u32, u32)], ParseErr>,
-) -> Result<(), Fail> {
-    match (tokens(alloc, text.as_bytes()), wanted) {
-        (Ok(found), Ok(wanted)) => {
-            assert_eq!(rt; found.items().len(), wanted.len(), "{text}");
-            for (token, (kind, start, end)) in found.items().iter().zip(wanted) {
-                assert_eq!(rt; token.kind, *kind, "{text}");
-                assert_eq!(rt; token.start, *start, "{text}");
-                assert_eq!(rt; token.end, *end, "{text}");
-            }
-        }
-        (Err(error), Err(wanted)) => assert_eq!(rt; error, wanted, "{text}"),
-        _ => assert!(rt; false, "{text}"),
-    }
-    Ok(())
-}
-
-#[test]
-fn tokens_are_as_long_as_their_form_allows(rt: HostRuntime) -> Result<(), Fail> {
-    use TokenKind::{Bracketed, Number, Sign, Text, Word};
-    let whole: [(&str, &[(TokenKind, u32, u32)]); 12] = [
-        ("", &[]),
-        (" \t\r\n", &[]),
-        ("_a1 B", &[(Word, 0, 3), (Word, 4, 5)]),
-        ("[a b]x", &[(Bracketed, 0, 5), (Word, 5, 6)]),
-        ("1.5.3", &[(Number, 0, 3), (Sign, 3, 4), (Number, 4, 5)]),
-        ("1.a", &[(Number, 0, 1), (Sign, 1, 2), (Word, 2, 3)]),
-        ("'it''s' ''", &[(Text, 0, 7), (Text, 8, 10)]),
-        (
-            "<=<>!=>=",
-            &[(Sign, 0, 2), (Sign, 2, 4), (Sign, 4, 6), (Sign, 6, 8)],
-        ),
-        ("<->", &[(Sign, 0, 1), (Sign, 1, 2), (Sign, 2, 3)]),
-        ("a--b\nc", &[(Word, 0, 1), (Word, 5, 6)]),
-        ("a/*b*/c/**/", &[(Word, 0, 1), (Word, 6, 7)]),
-        ("9223372036854.775807", &[(Number, 0, 20)]),
-    ];
-    for (text, wanted) in whole {
-        check_tokens(&rt, rt.alloc(), text, Ok(wanted))?;
-    }
-    let refused = [
-        ("?", 0),
-        ("a !", 2),
-        ("[]", 0),
-        ("a [b", 2),
-        ("[a\tb]", 0),
-        ("[a\u{85}]", 0),
-        ("'a''", 0),
-        ("a /*/", 2),
-        ("1.2345678", 0),
-        ("9223372036854775808", 0),
-        ("9223372036854.775808", 0),
-        ("a = 00009223372036854775808", 4),
-    ];
-    for (text, place) in refused {
-        check_tokens(&rt, rt.alloc(), text, Err(ParseErr::Token(place)))?;
-    }
-    Ok(())
-}
-
-#[test]
-fn limits_hold_up_to_their_edge(rt: HostRuntime) -> Result<(), Fail> {
-    let mut name = Text::empty(rt.alloc());
-    for _ in 0..64 {
-        name.push(b'a')?;
-    }
-    assert!(rt; tokens(rt.alloc(), name.items()).is_ok());
-    name.push(b'a')?;
-    assert!(rt; matches!(tokens(rt.alloc(), name.items()), Err(ParseErr::Token(0))));
-    let mut blanks = Text::empty(rt.alloc());
-    for _ in 0..65_536 {
-        blanks.push(b' ')?;
-    }
-    assert!(rt;
-        matches!(
-            parse(rt.alloc(), blanks.items()),
-            Err(ParseErr::Expected(65_536))
-        )
-    );
-    blanks.push(b' ')?;
-    assert!(rt; matches!(parse(rt.alloc(), blanks.items()), Err(ParseErr::TooLong)));
-    Ok(())
-}
-
-/// Whether an item is this: a column, or the time, under a name at its place.
-fn is_item(item: &SelectItem, is_time: bool, text: &str, place: u32) -> bool {
-    match item {
-        SelectItem::Column(name) => !is_time && is_name(name, text, place),
-        SelectItem::Time(name) => is_time && is_name(name, text, place),
+/// Whether the text is refused so.
+fn is_refused(alloc: Global, text: &[u8], wanted: ParseErr) -> bool {
+    match parse(alloc, text) {
+        Ok(_) => false,
+        Err(error) => error == wanted,
     }
 }
 
-fn is_name(name: &Name, text: &str, place: u32) -> bool {
-    name.text.items() == text.as_bytes() && name.place == place
-}
-
-#[test]
-fn a_query_is_read_as_its_tree(rt: HostRuntime) -> Result<(), Fail> {
-    let script = parse(
-        rt.alloc(),
-        b"select a, System.Timestamp() as b1, system /**/ into out from--\nsrc",
-    )?;
-    let wanted = [(false, "a", 7), (true, "b1", 32), (false, "system", 36)];
-    assert_eq!(rt; script.items.items().len(), 3);
-    for (item, (is_time, text, place)) in script.items.items().iter().zip(wanted) {
-        assert!(rt; is_item(item, is_time, text, place), "{text}");
-    }
-    assert!(rt; is_name(&script.output, "out", 53));
-    assert!(rt; is_name(&script.source, "src", 64));
-    assert!(rt; script.stamp.is_none());
-    Ok(())
-}
-
-#[test]
-fn a_stamp_is_named_behind_the_source(rt: HostRuntime) -> Result<(), Fail> {
-    let script = parse(
-        rt.alloc(),
-        b"SELECT a INTO out FROM src timestamp by System",
-    )?;
-    match &script.stamp {
-        None => assert!(rt; false),
-        Some(name) => assert!(rt; is_name(name, "System", 40)),
-    }
-    Ok(())
-}
-
-#[test]
-fn a_refusal_stands_at_its_place(rt: HostRuntime) -> Result<(), Fail> {
-    let cases: [(&[u8], ParseErr); 20] = [
-        (b"SELECT a b c INTO out FROM src", ParseErr::Expected(9)),
-        (b"SELECT a INTO out FROM", ParseErr::Expected(22)),
-        (b"", ParseErr::Expected(0)),
-        (b" --", ParseErr::Expected(3)),
-        (b"SELECT a, INTO out FROM src", ParseErr::Expected(10)),
-        (b"SELECT a INTO where FROM src", ParseErr::Expected(14)),
-        (b"SELECT a INTO out FROM src src", ParseErr::Expected(27)),
-        (b"SELECT [a] INTO out FROM src", ParseErr::Expected(7)),
-        (b"SELECT a INTO out FROM src ?", ParseErr::Token(27)),
-        (b"? \xff", ParseErr::Utf8(2)),
-        (b"\xff", ParseErr::Utf8(0)),
-        (b"SELECT FROM ?", ParseErr::Token(12)),
-        (b"SELECT a.b AS c INTO out FROM src", ParseErr::Expected(8)),
-        (
-            b"SELECT System.b() AS c INTO out FROM src",
-            ParseErr::Expected(14),
-        ),
-        (
-            b"SELECT System.Timestamp AS c INTO out FROM src",
-            ParseErr::Expected(24),
-        ),
-        (
-            b"SELECT System.Timestamp() INTO out FROM src",
-            ParseErr::Expected(26),
-        ),
-        (b"SELECT a AS b INTO out FROM src", ParseErr::Expected(9)),
-        (
-            b"SELECT a INTO out FROM src TIMESTAMP",
-            ParseErr::Expected(36),
-        ),
-        (
-            b"SELECT a INTO out FROM src TIMESTAMP BY t OVER d",
-            ParseErr::Expected(42),
-        ),
-        (
-            b"SELECT a INTO out FROM src TIMESTAMP t",
-            ParseErr::Expected(37),
-        ),
-    ];
-    for (text, wanted) in cases {
-        match parse(rt.alloc(), text) {
-            Ok(_) => assert!(rt; false, "{wanted:?}"),
-            Err(error) => assert_eq!(rt; error, wanted),
-        }
-    }
-    Ok(())
+fn is_read(alloc: Global, text: &[u8]) -> bool {
+    parse(alloc, text).is_ok()
 }

@@ -1,4 +1,4 @@
-use Rattle.query_parse.proofs.QueryLaws.{ok_from, err_from, only_from}
+use Rattle.query_grammar.proofs.QueryLaws.{ok_from, err_from, only_from}
 use Rattle.query_parse.proofs.query.parse.Goals as goal
 
 pub returns-clause-ok : goal.returns-clause-ok

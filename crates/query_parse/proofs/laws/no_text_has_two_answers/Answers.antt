@@ -1,6 +1,0 @@
-use Rattle.std.proofs.Common.{◌∙◌, sym}
-use Rattle.query_parse.proofs.QueryLaws.{due-once}
-use Rattle.query_parse.proofs.laws.no_text_has_two_answers.Goals as goal
-
-pub returns : goal.returns
-returns c = λ text a b first second. sym (due-once text a first) ∙ due-once text b second
