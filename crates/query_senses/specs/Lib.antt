@@ -1,4 +1,5 @@
 -- what the contracts rest on
+pub mod Conjunctions
 pub mod Faults
 pub mod Functions
 pub mod Kinds

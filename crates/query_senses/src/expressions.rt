@@ -43,8 +43,9 @@ fn read_and(alloc: Global, scope: &Scope, and: &tree::And) -> Result<Reading, Me
     chain(alloc, scope, and.place, Form::And, first, more.items())
 }
 
+/// What a part of an AND is.
 #[cycle(reading)]
-fn read_not(alloc: Global, scope: &Scope, not: &tree::Not) -> Result<Reading, Memory>
+pub fn read_not(alloc: Global, scope: &Scope, not: &tree::Not) -> Result<Reading, Memory>
     ensures { IfOk result (λ reading. reading ≡ spec.reading_of_not scope.now not.now) }
 {
     match not {

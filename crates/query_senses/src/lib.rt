@@ -13,6 +13,7 @@ mod calls;
 mod cases;
 mod columns;
 mod conditions;
+mod conjunctions;
 mod expressions;
 mod fault;
 mod form;
@@ -29,6 +30,7 @@ mod sense;
 mod tests;
 
 pub use columns::{Finding, finding_of};
+pub use conjunctions::read_and_without;
 pub use expressions::read_expr;
 pub use fault::{Checked, Fault, Rule, least, push_faults, refuse};
 pub use functions::is_time;
