@@ -1,0 +1,37 @@
+-- A plan while its script is read: the faults, the streams that are named, the steps.
+use Rattle.std.specs.Prelude.{ℕ, ◌+◌, nat_le, nat_lt, ◌&&◌, if◌then◌else◌, List, [], ◌∷◌, ◌++◌, length}
+use Rattle.event_value.specs.declared.plan.Step.{Step}
+use Rattle.query_senses.specs.declared.fault.Fault.{Fault}
+use Rattle.query_senses.specs.declared.fault.Rule.{Rule}
+use Rattle.query_senses.specs.declared.fault.Rule.TheVariants as rule
+use Rattle.query_senses.specs.Faults.{fault_at}
+use Rattle.query_sources.specs.declared.draft.Draft.{Draft}
+use Rattle.query_sources.specs.declared.draft.Mention.{Mention}
+
+-- faults added at the end
+abbrev pub noted : List Fault → Draft → Draft
+noted faults d = record d { faults = d.faults ++ faults }
+
+abbrev pub noted_at : ℕ → Rule → Draft → Draft
+noted_at place r d = record d { faults = d.faults ++ fault_at place r ∷ [] }
+
+abbrev pub mentioned : Mention → Draft → Draft
+mentioned m d = record d { mentions = d.mentions ++ m ∷ [] }
+
+-- a step added at the end, whose rows go on
+abbrev pub with_step : Step → Draft → Draft
+with_step step d = record d { steps = d.steps ++ step ∷ []; last = length d.steps }
+
+-- how many steps a plan may have
+abbrev pub max_steps : ℕ
+max_steps = 32
+
+abbrev pub with_count : ℕ → Draft → Draft
+with_count n d = record d { count = n }
+
+-- the select at a place asks for so many steps more
+abbrev pub asked : ℕ → ℕ → Draft → Draft
+asked place n d =
+    if nat_le d.count max_steps && nat_lt max_steps (d.count + n)
+    then noted_at place rule.TooMany (with_count (d.count + n) d)
+    else with_count (d.count + n) d
