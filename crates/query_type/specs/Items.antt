@@ -22,9 +22,9 @@ use Rattle.query_senses.specs.Faults.{Checked, fault_at}
 use Rattle.query_senses.specs.Reading.{outcome_of}
 use Rattle.query_senses.specs.Readings.{reading}
 use Rattle.query_type.specs.declared.items.Picked.{Picked}
-use Rattle.query_type.specs.declared.known.ResultColumn.{ResultColumn}
-use Rattle.query_type.specs.Conditions.{place_of, value_of}
-use Rattle.query_type.specs.Known.{name_at}
+use Rattle.query_sources.specs.declared.known.ResultColumn.{ResultColumn}
+use Rattle.query_sources.specs.Conditions.{place_of, value_of}
+use Rattle.query_sources.specs.Known.{name_at}
 
 -- the name of the item at a place, counted from 1
 abbrev pub numbered : ℕ → List ℕ

@@ -15,23 +15,24 @@ use Rattle.query_senses.specs.declared.fault.Fault.{Fault}
 use Rattle.query_senses.specs.declared.fault.Rule.{Rule}
 use Rattle.query_senses.specs.declared.fault.Rule.TheVariants as rule
 use Rattle.query_senses.specs.Faults.{least}
-use Rattle.query_type.specs.declared.draft.Draft.{Draft}
-use Rattle.query_type.specs.declared.draft.Mention.{Mention}
-use Rattle.query_type.specs.declared.draft.Stamping.{Stamping}
-use Rattle.query_type.specs.declared.draft.Stamping.TheVariants.{Arrival, By, Refused}
-use Rattle.query_type.specs.declared.known.KnownSource.{KnownSource}
-use Rattle.query_type.specs.declared.known.Origin.TheVariants.{Definition}
-use Rattle.query_type.specs.declared.known.ResultColumn.{ResultColumn}
-use Rattle.query_type.specs.declared.known.Streams.{Streams}
+use Rattle.query_sources.specs.declared.draft.Draft.{Draft}
+use Rattle.query_sources.specs.declared.draft.Mention.{Mention}
+use Rattle.query_sources.specs.declared.draft.Stamping.{Stamping}
+use Rattle.query_sources.specs.declared.draft.Stamping.TheVariants.{Arrival, By, Refused}
+use Rattle.query_sources.specs.declared.known.KnownSource.{KnownSource}
+use Rattle.query_sources.specs.declared.known.Origin.TheVariants.{Definition}
+use Rattle.query_sources.specs.declared.known.References.{References}
+use Rattle.query_sources.specs.declared.known.ResultColumn.{ResultColumn}
+use Rattle.query_sources.specs.declared.known.Streams.{Streams}
 use Rattle.query_type.specs.declared.plans.Progress.{Progress}
 use Rattle.query_type.specs.declared.type_err.TypeErr.{TypeErr}
-use Rattle.query_type.specs.Drafts.{noted_at}
+use Rattle.query_sources.specs.Drafts.{noted_at}
 use Rattle.query_type.specs.Items.{column_names}
-use Rattle.query_type.specs.Known.{reference_sources, streams_of}
+use Rattle.query_sources.specs.Known.{references_of, streams_of}
 use Rattle.query_type.specs.Refusals.{answer_of}
-use Rattle.query_type.specs.ScriptNames.{names_of_script}
+use Rattle.query_sources.specs.ScriptNames.{names_of_script}
 use Rattle.query_type.specs.Selects.{columns_of, select_read}
-use Rattle.query_type.specs.Stamps.{faults_of_mentions}
+use Rattle.query_sources.specs.Stamps.{faults_of_mentions}
 use Rattle.query_type.specs.Unions.{columns_from, columns_of_union, joined_from, union_read}
 
 -- ---- the sources of the inputs
@@ -45,18 +46,21 @@ draft_of_streams st = record {
   count = length st.steps;
 }
 
-abbrev pub progress_of_streams : Streams → List KnownSource → Progress
-progress_of_streams st references = record {
-  known = st.known ++ references;
+abbrev pub progress_of_inputs : Streams → References → Progress
+progress_of_inputs st references = record {
+  known = references.known;
   outputs = [];
   used = st.used;
+  references = references.used;
   draft = draft_of_streams st;
 }
 
--- the source steps of the streams that the script names
+-- the source steps of the streams that the script names, and the references that it names
 unfoldable pub opened : Script → Inputs → Progress
 opened s i =
-    progress_of_streams (streams_of (names_of_script s) i.streams) (reference_sources i.references)
+    let names = names_of_script s in
+    let streams = streams_of names i.streams in
+    progress_of_inputs streams (references_of names streams.known i.references)
 
 abbrev pub with_draft : Draft → Progress → Progress
 with_draft d p = record p { draft = d }
@@ -213,11 +217,11 @@ abbrev pub uses_of : List Mention → List ℕ → List StreamUse
 uses_of mentions [] = []
 uses_of mentions (stream ∷ more) = use_of mentions stream ∷ uses_of mentions more
 
--- the plan of what was read; no plan joins, so none uses references
+-- the plan of what was read
 abbrev pub finished : Progress → Plan
 finished p = record {
   streams = uses_of p.draft.mentions p.used;
-  references = [];
+  references = p.references;
   steps = p.draft.steps;
   outputs = p.outputs;
 }

@@ -13,20 +13,21 @@ use Rattle.query_senses.specs.declared.reading.AggregateCall.{AggregateCall}
 use Rattle.query_senses.specs.declared.reading.Side.TheVariants.{Rows, Groups}
 use Rattle.query_senses.specs.declared.scope.GroupKey.{GroupKey}
 use Rattle.query_senses.specs.declared.scope.Scope.{Scope}
-use Rattle.query_type.specs.declared.draft.Draft.{Draft}
+use Rattle.query_sources.specs.declared.draft.Draft.{Draft}
 use Rattle.query_type.specs.declared.items.Picked.{Picked}
-use Rattle.query_type.specs.declared.known.KnownSource.{KnownSource}
-use Rattle.query_type.specs.declared.known.ResultColumn.{ResultColumn}
-use Rattle.query_type.specs.declared.windows.Window.{Window}
-use Rattle.query_type.specs.declared.windows.Window.TheVariants.{Grid, Snapshot}
-use Rattle.query_type.specs.Aggregates.{arguments_of, call_columns, calls_of_select}
-use Rattle.query_type.specs.Conditions.{filtered}
-use Rattle.query_type.specs.Drafts.{asked, noted, noted_at, with_step}
-use Rattle.query_type.specs.Groups.{first_window, grouping_of}
+use Rattle.query_sources.specs.declared.known.KnownSource.{KnownSource}
+use Rattle.query_sources.specs.declared.known.ResultColumn.{ResultColumn}
+use Rattle.query_windows.specs.declared.windows.Window.{Window}
+use Rattle.query_windows.specs.declared.windows.Window.TheVariants.{Grid, Session, Sliding, Snapshot}
+use Rattle.query_windows.specs.Aggregates.{arguments_of, call_columns, calls_of_select}
+use Rattle.query_sources.specs.Conditions.{filtered}
+use Rattle.query_sources.specs.Drafts.{asked, noted, noted_at, with_step}
+use Rattle.query_windows.specs.Groups.{first_window, grouping_of}
 use Rattle.query_type.specs.Items.{column_names, picked_of}
-use Rattle.query_type.specs.Known.{known_named}
-use Rattle.query_type.specs.Names.{noted_repeats}
-use Rattle.query_type.specs.Sources.{scope_of_tail, tail_mentioned}
+use Rattle.query_sources.specs.Joins.{joins_read}
+use Rattle.query_sources.specs.Known.{known_named}
+use Rattle.query_sources.specs.Names.{noted_repeats}
+use Rattle.query_sources.specs.Sources.{scope_of_tail, tail_mentioned}
 
 -- ---- how many steps a select asks for
 
@@ -63,11 +64,12 @@ first_step known t = step_of (known_named known t.source.name.text)
 abbrev pub from_step : ℕ → Draft → Draft
 from_step n d = record d { last = n }
 
--- its steps are counted, its sources mentioned, and its rows are those of the first source
+-- its steps are counted, its sources mentioned, and its rows are those of the first, with each join
 unfoldable pub begun : List KnownSource → ℕ → Bool → Tail → Draft → Draft
 begun known place later t d =
-    from_step (first_step known t)
-    (tail_mentioned known t (asked place (whole_count later t) d))
+    joins_read known t
+    (from_step (first_step known t)
+    (tail_mentioned known t (asked place (whole_count later t) d)))
 
 abbrev pub where_read : Scope → Option Expr → Draft → Draft
 where_read scope None d = d
@@ -96,18 +98,22 @@ plain_read scope having items d = projected (picked_of scope Rows items) (having
 
 -- ---- groups
 
-abbrev pub window_step : ℕ → Window → ℕ → List Aggregate → Step
-window_step from Snapshot keys aggs = step.Snapshot from keys aggs
-window_step from (Grid size hop) keys aggs = step.Grid from size hop (pos 0) keys aggs
+abbrev pub window_step : ℕ → Window → ℕ → ℕ → List Aggregate → Step
+window_step from Snapshot parts keys aggs = step.Snapshot from keys aggs
+window_step from (Grid size hop) parts keys aggs = step.Grid from size hop (pos 0) keys aggs
+window_step from (Sliding size) parts keys aggs = step.Sliding from size keys aggs
+window_step from (Session timeout most) parts keys aggs =
+    step.Session from timeout most parts keys aggs
 
-abbrev pub with_window : Window → ℕ → List Aggregate → Draft → Draft
-with_window w keys aggs d = with_step (window_step d.last w keys aggs) d
+abbrev pub with_window : Window → ℕ → ℕ → List Aggregate → Draft → Draft
+with_window w parts keys aggs d = with_step (window_step d.last w parts keys aggs) d
 
 -- what the window takes of each row, and the window
-abbrev pub grouped : Window → List GroupKey → List AggregateCall → Draft → Draft
-grouped w keys calls d =
-    let given = arguments_of keys calls in
-    with_window w (length keys) given.aggregates (with_step (step.Project d.last given.exprs) d)
+abbrev pub grouped : Window → List ℕ → List GroupKey → List AggregateCall → Draft → Draft
+grouped w parts keys calls d =
+    let given = arguments_of parts keys calls in
+    with_window w (length parts) (length keys) given.aggregates
+    (with_step (step.Project d.last given.exprs) d)
 
 abbrev pub with_keys : List GroupKey → Scope → Scope
 with_keys keys scope = record scope { keys = keys }
@@ -130,7 +136,8 @@ group_scope scope groups having items =
 unfoldable pub groups_read : Scope → GroupBy → Option Having → SelectItems → Draft → Draft
 groups_read scope groups having items d =
     let g = grouping_of scope groups in
-    grouped (first_window g.windows) g.keys (calls_over scope groups having items) (noted g.faults d)
+    grouped (first_window g.windows) g.parts g.keys (calls_over scope groups having items)
+    (noted g.faults d)
 
 abbrev pub having_read : Scope → Option Having → Draft → Draft
 having_read scope None d = d

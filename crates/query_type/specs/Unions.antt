@@ -7,10 +7,10 @@ use Rattle.query_tree.specs.declared.select.Select.{Select}
 use Rattle.query_senses.specs.declared.fault.Rule.TheVariants as rule
 use Rattle.query_senses.specs.Kinds.{is_same_kind}
 use Rattle.query_senses.specs.Same.{all_hold}
-use Rattle.query_type.specs.declared.draft.Draft.{Draft}
-use Rattle.query_type.specs.declared.known.KnownSource.{KnownSource}
-use Rattle.query_type.specs.declared.known.ResultColumn.{ResultColumn}
-use Rattle.query_type.specs.Drafts.{noted_at, with_step}
+use Rattle.query_sources.specs.declared.draft.Draft.{Draft}
+use Rattle.query_sources.specs.declared.known.KnownSource.{KnownSource}
+use Rattle.query_sources.specs.declared.known.ResultColumn.{ResultColumn}
+use Rattle.query_sources.specs.Drafts.{noted_at, with_step}
 use Rattle.query_type.specs.Selects.{columns_of, select_read}
 
 -- kinds are compared where both are known

@@ -3,12 +3,11 @@
 ghost use Rattle.std.specs.Prelude.{◌≡◌, ◌++◌, ◌+◌, IfOk, OnOk, length};
 ghost use Rattle.query_type.specs.Items as spec;
 
-use crate::conditions::value_of;
-use crate::known::ResultColumn;
 use event_value::{Copies, Expr, Memory, Seq, Text, push_number};
 use query_senses::{
     Checked, Face, Fault, Rule, Scope, ScopeColumn, Side, Valued, push_faults, read_expr, take_side,
 };
+use query_sources::{ResultColumn, value_of};
 use query_tree::{Item, Name, SelectItems};
 use std::alloc::Global;
 

@@ -2,29 +2,19 @@
 //! `plan` is the call: `TypeErr` names the rule that is broken, and where.
 //! What matters: `plan`, clauses `ok` and `err`: the plan exactly where no rule is broken, and else the
 //! fault of the least place and there of the least number.
-//! The meaning: specs/Plans.antt, over specs/Selects.antt, specs/Sources.antt, specs/Groups.antt,
-//! specs/Windows.antt and specs/Items.antt; expressions are those of query_senses.
-//! It runs nothing: joins, sliding and session windows and Offset are refused as Unsupported.
+//! The meaning: specs/Plans.antt, over specs/Selects.antt, specs/Unions.antt and specs/Items.antt;
+//! sources are those of query_sources, groups those of query_windows, expressions those of
+//! query_senses.
+//! It runs nothing; Offset is refused as Unsupported.
 #![tactic(auto)]
 
-mod aggregates;
-mod arguments;
-mod bare;
-mod conditions;
-mod draft;
-mod groups;
+mod grouped;
 mod items;
-mod known;
-mod lengths;
-mod names;
 mod plans;
-mod script_names;
 mod selects;
-mod sources;
-mod stamps;
 mod type_err;
 mod unions;
-mod windows;
+mod uses;
 
 pub use plans::plan;
 pub use type_err::TypeErr;

@@ -4,17 +4,17 @@ ghost use Rattle.std.specs.Prelude.{◌≡◌, ◌++◌, IfOk, IfErr, OnOk, Ok};
 ghost use Rattle.query_type.specs.Plans as spec;
 ghost use Rattle.query_type.specs.Refusals.{IsRefusal};
 
-use crate::draft::{Draft, Mention, Stamping};
 use crate::items::column_names;
-use crate::known::{KnownSource, Origin, push_references, streams_of};
-use crate::script_names::names_of_script;
 use crate::selects::read_select;
-use crate::stamps::faults_of_mentions;
 use crate::type_err::{TypeErr, err_of_fault};
 use crate::unions::{join_selects, read_union};
-use event_value::{Copies, Memory, Output, Plan, Seq, StreamUse, Text};
+use crate::uses::uses_of;
+use event_value::{Copies, Memory, Output, Plan, Seq, Text};
 use input_book::Inputs;
 use query_senses::{Fault, Rule, least, push_faults};
+use query_sources::{
+    Draft, KnownSource, Origin, faults_of_mentions, names_of_script, references_of, streams_of,
+};
 use query_tree::{Def, Name, Script, Stmt, With};
 use std::alloc::Global;
 
@@ -27,6 +27,8 @@ pub struct Progress {
     pub outputs: Seq<Output>,
     /// The places of the streams that the script names.
     pub used: Seq<u16>,
+    /// The places of the references that it names.
+    pub references: Seq<u16>,
     /// The steps and the faults.
     pub draft: Draft,
 }
@@ -43,12 +45,17 @@ fn open(alloc: Global, script: &Script, inputs: &Inputs) -> Result<Progress, Mem
     let names = names_of_script(alloc, script)?;
     let streams = streams_of(alloc, names.items(), inputs.streams.items())?;
     let count = streams.steps.items().len();
-    let mut known = streams.known;
-    push_references(alloc, &mut known, inputs.references.items())?;
+    let references = references_of(
+        alloc,
+        names.items(),
+        streams.known,
+        inputs.references.items(),
+    )?;
     Ok(Progress {
-        known,
+        known: references.known,
         outputs: Seq::empty(alloc),
         used: streams.used,
+        references: references.used,
         draft: Draft {
             faults: Seq::empty(alloc),
             mentions: Seq::empty(alloc),
@@ -238,52 +245,6 @@ fn read_script(alloc: Global, script: &Script, inputs: &Inputs) -> Result<Progre
     Ok(progress)
 }
 
-fn use_of_stamping(stream: u16, stamping: &Stamping, alloc: Global) -> Result<StreamUse, Memory>
-    ensures { IfOk result (λ made. made ≡ spec.use_of_stamping stream stamping.now) }
-{
-    match stamping {
-        Stamping::By(expr, columns) => Ok(StreamUse {
-            stream,
-            stamp: Some(expr.copy(alloc)?),
-            over: columns.copy()?,
-        }),
-        Stamping::Arrival => Ok(unstamped(alloc, stream)),
-        Stamping::Refused => Ok(unstamped(alloc, stream)),
-    }
-}
-
-fn unstamped(alloc: Global, stream: u16) -> StreamUse
-    ensures { result ≡ spec.unstamped stream }
-{
-    StreamUse {
-        stream,
-        stamp: None,
-        over: Seq::empty(alloc),
-    }
-}
-
-// The use of a stream, as its first mention says.
-fn use_of(alloc: Global, mentions: &[Mention], stream: u16) -> Result<StreamUse, Memory>
-    ensures { IfOk result (λ made. made ≡ spec.use_of mentions.now stream) }
-{
-    for mention in mentions {
-        if mention.stream == stream {
-            return use_of_stamping(stream, &mention.stamping, alloc);
-        }
-    }
-    Ok(unstamped(alloc, stream))
-}
-
-fn uses_of(alloc: Global, mentions: &[Mention], used: &[u16]) -> Result<Seq<StreamUse>, Memory>
-    ensures { IfOk result (λ uses. uses ≡ spec.uses_of mentions.now used.now) }
-{
-    let mut uses = Seq::empty(alloc);
-    for stream in used {
-        uses.push(use_of(alloc, mentions, *stream)?)?;
-    }
-    Ok(uses)
-}
-
 fn faults_of(alloc: Global, draft: &Draft) -> Result<Seq<Fault>, Memory>
     ensures { IfOk result (λ faults. faults ≡ spec.faults_of draft.now) }
 {
@@ -300,12 +261,13 @@ fn finished(alloc: Global, progress: Progress) -> Result<Plan, Memory>
         known: _,
         outputs,
         used,
+        references,
         draft,
     } = progress;
     let streams = uses_of(alloc, draft.mentions.items(), used.items())?;
     Ok(Plan {
         streams,
-        references: Seq::empty(alloc),
+        references,
         steps: draft.steps,
         outputs,
     })

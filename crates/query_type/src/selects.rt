@@ -1,23 +1,18 @@
 //! One select: its steps, its columns, the faults in it.
 
-ghost use Rattle.std.specs.Prelude.{◌≡◌, IfOk, OnOk, pos};
-ghost use Rattle.query_type.specs.Groups.{first_window};
+ghost use Rattle.std.specs.Prelude.{◌≡◌, IfOk, OnOk};
 ghost use Rattle.query_type.specs.Selects as spec;
 
-use crate::aggregates::{arguments_of, call_columns, calls_of_select};
-use crate::conditions::read_filter;
-use crate::draft::{Draft, number_of};
-use crate::groups::read_groups;
+use crate::grouped::open_groups;
 use crate::items::{Picked, column_names, read_items};
-use crate::known::{KnownSource, ResultColumn, known_named};
-use crate::names::note_repeats;
-use crate::sources::{mention_tail, scope_of_tail};
-use crate::windows::Window;
-use event_value::{Aggregate, Memory, Seq, Step};
-use query_senses::{AggregateCall, GroupKey, Rule, Scope, Side};
+use event_value::{Memory, Seq, Step};
+use query_senses::{Rule, Scope, Side};
+use query_sources::{
+    Draft, KnownSource, ResultColumn, known_named, mention_tail, note_repeats, read_filter,
+    read_joins, scope_of_tail,
+};
 use query_tree::{Expr, GroupBy, Having, SelectItems, Tail};
 use std::alloc::Global;
-use tick_time::{Span, Unit, span_of};
 
 fn filter_steps(condition: &Option<Expr>) -> usize
     ensures { result ≡ spec.filter_steps condition.now }
@@ -135,115 +130,6 @@ fn read_having(
     }
 }
 
-// The offset of a window without one.
-#[tactic(auto, unfolding(tick_time::specs::Span::span_of_units))]
-fn no_offset() -> Option<Span>
-    ensures { result ≡ Some (pos 0) }
-{
-    span_of(Unit::Day, 0)
-}
-
-fn go_on_with_window(
-    window: Window,
-    keys: u16,
-    aggs: Seq<Aggregate>,
-    draft: &mut Draft,
-) -> Result<(), Memory>
-    ensures { OnOk result (draft.new ≡ spec.with_window window keys aggs draft.old) }
-{
-    let from = draft.last;
-    match window {
-        Window::Snapshot => draft.go_on(Step::Snapshot { from, keys, aggs }),
-        Window::Grid(size, hop) => match no_offset() {
-            None => Err(Memory),
-            Some(offset) => draft.go_on(Step::Grid {
-                from,
-                size,
-                hop,
-                offset,
-                keys,
-                aggs,
-            }),
-        },
-    }
-}
-
-// The steps of groups: what the window takes of each row, and the window.
-fn go_on_with_groups(
-    alloc: Global,
-    window: Window,
-    keys: &[GroupKey],
-    calls: &[AggregateCall],
-    draft: &mut Draft,
-) -> Result<(), Memory>
-    ensures { OnOk result (draft.new ≡ spec.grouped window keys.now calls.now draft.old) }
-{
-    let number = number_of(keys.len())?;
-    let arguments = arguments_of(alloc, keys, calls)?;
-    draft.go_on(Step::Project {
-        from: draft.last,
-        exprs: arguments.exprs,
-    })?;
-    go_on_with_window(window, number, arguments.aggregates, draft)
-}
-
-fn first_window(windows: &[Option<Window>]) -> Window
-    ensures { result ≡ first_window windows.now }
-{
-    match windows {
-        [] => Window::Snapshot,
-        [None, ..] => Window::Snapshot,
-        [Some(window), ..] => *window,
-    }
-}
-
-fn with_keys(scope: Scope, keys: Seq<GroupKey>) -> Scope
-    ensures { result ≡ spec.with_keys keys scope }
-{
-    Scope {
-        sources: scope.sources,
-        timed: scope.timed,
-        keys,
-        aggregates: scope.aggregates,
-    }
-}
-
-fn with_calls(alloc: Global, scope: Scope, calls: &[AggregateCall]) -> Result<Scope, Memory>
-    ensures { IfOk result (λ made. made ≡ spec.with_calls calls.now scope) }
-{
-    let aggregates = call_columns(alloc, scope.keys.items().len(), calls)?;
-    Ok(Scope {
-        sources: scope.sources,
-        timed: scope.timed,
-        keys: scope.keys,
-        aggregates,
-    })
-}
-
-// Reads the groups of a select and goes on with them; the scope is that of what stands over them.
-#[tactic(auto, unfolding(crate::specs::Selects::group_scope, crate::specs::Selects::groups_read))]
-fn open_groups(
-    alloc: Global,
-    scope: Scope,
-    groups: &GroupBy,
-    having: &Option<Having>,
-    items: &SelectItems,
-    draft: &mut Draft,
-) -> Result<Scope, Memory>
-    ensures scope { IfOk result (λ made.
-        made ≡ spec.group_scope scope groups.now having.now items.now) }
-    ensures draft { OnOk result (
-        draft.new ≡ spec.groups_read scope groups.now having.now items.now draft.old) }
-{
-    let grouping = read_groups(alloc, &scope, groups)?;
-    draft.note_all(grouping.faults.items())?;
-    let window = first_window(grouping.windows.items());
-    let keyed = with_keys(scope, grouping.keys);
-    let calls = calls_of_select(alloc, &keyed, items, having)?;
-    go_on_with_groups(alloc, window, keyed.keys.items(), calls.items(), draft)?;
-    with_calls(alloc, keyed, calls.items())
-}
-
 #[tactic(auto, unfolding(crate::specs::Selects::grouped_columns, crate::specs::Selects::grouped_read))]
 fn read_grouped(
     alloc: Global,
@@ -281,7 +167,7 @@ fn read_plain(
     project(alloc, picked, draft)
 }
 
-// Begins a select: its steps are counted, its sources mentioned, and its rows are those of the first.
+// Begins a select: its steps are counted, its sources mentioned and joined to the first.
 #[tactic(auto, unfolding(crate::specs::Selects::begun))]
 fn begin(
     alloc: Global,
@@ -296,7 +182,7 @@ fn begin(
     draft.ask(place, whole_count(later, tail)?)?;
     mention_tail(alloc, known, tail, draft)?;
     draft.last = first_step(known, tail);
-    Ok(())
+    read_joins(alloc, known, tail, draft)
 }
 
 /// Reads a select at a place; a later one of a union asks for the step that joins it.

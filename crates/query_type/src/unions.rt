@@ -3,11 +3,10 @@
 ghost use Rattle.std.specs.Prelude.{◌≡◌, IfOk, OnOk};
 ghost use Rattle.query_type.specs.Unions as spec;
 
-use crate::draft::Draft;
-use crate::known::{KnownSource, ResultColumn};
 use crate::selects::read_select;
 use event_value::{Copies, Kind, Memory, Seq, Step};
 use query_senses::{Rule, is_same_kind};
+use query_sources::{Draft, KnownSource, ResultColumn};
 use query_tree::{Select, Union};
 use std::alloc::Global;
 

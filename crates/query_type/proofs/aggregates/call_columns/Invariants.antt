@@ -1,8 +1,0 @@
-use Rattle.std.proofs.Common.{◌≡◌, ◌++◌, drop}
-use Rattle.query_type.specs.Aggregates as spec
-use Rattle.query_type.proofs.aggregates.call_columns.Given as goal
-
-abbrev pub invariant-loop-call : goal.invariant-loop-call
-invariant-loop-call l =
-    l.columns ++ spec.call_columns l.number (drop l.call-index l.calls) ≡
-    spec.call_columns l.fn.keys l.calls

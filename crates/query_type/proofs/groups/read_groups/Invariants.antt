@@ -1,8 +1,0 @@
-use Rattle.std.proofs.Common.{◌≡◌, drop}
-use Rattle.query_type.specs.Groups as spec
-use Rattle.query_type.proofs.groups.read_groups.Given as goal
-
-abbrev pub invariant-loop-group : goal.invariant-loop-group
-invariant-loop-group l =
-    spec.with_groups l.scope l.grouping (drop l.group-index l.group-items) ≡
-    spec.with_groups l.scope l.initial.grouping l.group-items

@@ -1,7 +1,0 @@
-use Rattle.std.proofs.Common.{◌≡◌, take}
-use Rattle.query_type.specs.Known as spec
-use Rattle.query_type.proofs.known.declared_columns.Given as goal
-
-abbrev pub invariant-loop-column : goal.invariant-loop-column
-invariant-loop-column l =
-    l.found ≡ spec.declared_columns (take l.column-index l.columns)

@@ -1,7 +1,0 @@
-use Rattle.std.proofs.Common.{◌≡◌, drop}
-use Rattle.query_type.specs.Known as spec
-use Rattle.query_type.proofs.known.known_named.Given as goal
-
-abbrev pub invariant-loop-source : goal.invariant-loop-source
-invariant-loop-source l =
-    spec.known_named (drop l.source-index l.known) l.name ≡ spec.known_named l.known l.name

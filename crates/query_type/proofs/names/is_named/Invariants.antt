@@ -1,7 +1,0 @@
-use Rattle.std.proofs.Common.{◌≡◌, drop}
-use Rattle.query_type.specs.Names as spec
-use Rattle.query_type.proofs.names.is_named.Given as goal
-
-abbrev pub invariant-loop-name : goal.invariant-loop-name
-invariant-loop-name l =
-    spec.is_named (drop l.name-index l.names) l.text ≡ spec.is_named l.names l.text

@@ -1,8 +1,0 @@
-use Rattle.std.proofs.Common.{◌≡◌, ◌++◌, drop}
-use Rattle.query_type.specs.ScriptNames as spec
-use Rattle.query_type.proofs.script_names.names_of_script.Given as goal
-
-abbrev pub invariant-loop-more : goal.invariant-loop-more
-invariant-loop-more l =
-    l.names ++ spec.names_of_statements (drop l.more-index l.more-items) ≡
-    l.initial.names ++ spec.names_of_statements l.more-items

@@ -1,8 +1,0 @@
-use Rattle.std.proofs.Common.{◌≡◌, ◌++◌, drop}
-use Rattle.query_type.specs.ScriptNames as spec
-use Rattle.query_type.proofs.script_names.push_selects.Given as goal
-
-abbrev pub invariant-loop-select : goal.invariant-loop-select
-invariant-loop-select l =
-    l.names ++ spec.names_of_selects (drop l.select-index l.selects) ≡
-    l.fn.names ++ spec.names_of_selects l.selects

@@ -1,7 +1,0 @@
-use Rattle.std.proofs.Common.{◌≡◌, ◌++◌, map, take}
-use Rattle.query_type.specs.ScriptNames as spec
-use Rattle.query_type.proofs.script_names.push_tail.Given as goal
-
-abbrev pub invariant-loop-join : goal.invariant-loop-join
-invariant-loop-join l =
-    l.names ≡ l.initial.names ++ map spec.name_of_join (take l.join-index l.join-items)

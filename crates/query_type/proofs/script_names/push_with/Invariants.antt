@@ -1,8 +1,0 @@
-use Rattle.std.proofs.Common.{◌≡◌, ◌++◌, drop}
-use Rattle.query_type.specs.ScriptNames as spec
-use Rattle.query_type.proofs.script_names.push_with.Given as goal
-
-abbrev pub invariant-loop-def : goal.invariant-loop-def
-invariant-loop-def l =
-    l.names ++ spec.names_of_defs (drop l.def-index l.def-items) ≡
-    l.initial.names ++ spec.names_of_defs l.def-items

@@ -1,8 +1,0 @@
-use Rattle.std.proofs.Common.{◌≡◌, drop}
-use Rattle.query_type.specs.Sources as spec
-use Rattle.query_type.proofs.sources.mention_tail.Given as goal
-
-abbrev pub invariant-loop-join : goal.invariant-loop-join
-invariant-loop-join l =
-    spec.joins_mentioned l.known (drop l.join-index l.join-items) l.draft ≡
-    spec.joins_mentioned l.known l.join-items l.initial.draft

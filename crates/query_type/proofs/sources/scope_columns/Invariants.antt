@@ -1,8 +1,0 @@
-use Rattle.std.proofs.Common.{◌≡◌, ◌++◌, drop}
-use Rattle.query_type.specs.Sources as spec
-use Rattle.query_type.proofs.sources.scope_columns.Given as goal
-
-abbrev pub invariant-loop-column : goal.invariant-loop-column
-invariant-loop-column l =
-    l.found ++ spec.columns_at l.number (drop l.column-index l.columns) ≡
-    spec.columns_at l.fn.first l.columns

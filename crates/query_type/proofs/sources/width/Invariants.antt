@@ -1,7 +1,0 @@
-use Rattle.std.proofs.Common.{◌≡◌, drop}
-use Rattle.query_type.specs.Sources as spec
-use Rattle.query_type.proofs.sources.width.Given as goal
-
-abbrev pub invariant-loop-source : goal.invariant-loop-source
-invariant-loop-source l =
-    spec.width_from l.width (drop l.source-index l.sources) ≡ spec.width l.sources
