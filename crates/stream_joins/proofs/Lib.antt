@@ -1,0 +1,4 @@
+pub mod PartLemmas
+pub mod FoundLemmas
+pub mod LateLemmas
+pub mod LawLemmas
