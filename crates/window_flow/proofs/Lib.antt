@@ -1,0 +1,7 @@
+pub mod GroupLemmas
+pub mod HeldLemmas
+pub mod MomentLemmas
+pub mod PlaceLemmas
+pub mod RowLemmas
+pub mod SessionLemmas
+pub mod StretchLemmas
