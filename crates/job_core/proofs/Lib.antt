@@ -1,0 +1,6 @@
+pub mod LaneLemmas
+pub mod StreamLemmas
+pub mod FreshLemmas
+pub mod BatchLemmas
+pub mod CoreLemmas
+pub mod ScheduleLemmas

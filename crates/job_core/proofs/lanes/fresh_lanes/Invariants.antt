@@ -1,0 +1,10 @@
+use Rattle.std.proofs.Common.{map, take}
+use Rattle.job_core.specs.Fresh.{fresh_heard_of}
+use Rattle.job_core.specs.Lanes.{AreOfStreams, LanesStand, name_of}
+use Rattle.job_core.proofs.lanes.fresh_lanes.Given as goal
+
+abbrev pub invariant-loop-used : goal.invariant-loop-used
+invariant-loop-used l = record {
+  of_streams : AreOfStreams (take l.used-index l.uses) l.counts (map name_of l.lanes);
+  stand : LanesStand l.inputs.policy l.lanes (fresh_heard_of l.inputs (take l.used-index l.uses)) 0;
+}
