@@ -1,0 +1,4 @@
+pub mod AskingLemmas
+pub mod HearingLemmas
+pub mod LogLemmas
+pub mod ReferenceLemmas
