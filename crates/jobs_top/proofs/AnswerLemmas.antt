@@ -1,56 +1,43 @@
 -- What a failure says of the answer.
-use Rattle.std.proofs.Common.{◌≡◌, ℕ, List, [], ◌∷◌, ◌++◌, Option, Some, None, refl, sym, subst}
+use Rattle.std.proofs.Common.{◌≡◌, ℕ, List, [], Option, Some, None, refl, sym, subst}
 use Rattle.std.specs.Option.{IfSome}
+use Rattle.log_reading.proofs.AskingLemmas.{Asks-none}
 use Rattle.outside.specs.KnownFiles.{KnownFiles}
 use Rattle.outside.specs.Written.{WritesPrefix}
-use Rattle.query_parse.specs.declared.parse_err.ParseErr.{ParseErr}
-use Rattle.jobs_top.specs.Answers.{Asks, IsRefusal, RefusesQuery, NamesFaultyFile}
-use Rattle.jobs_top.specs.Failures.{status_of, failure_line, names_up_to}
-use Rattle.jobs_top.specs.Preview.{HoldsNoScript, query_segment}
-use Rattle.jobs_top.specs.StatusLines.{refused_line}
-use Rattle.jobs_top.specs.Words.{PreviewNames, files_of}
-use Rattle.jobs_top.specs.declared.failure.Document.{Document}
-use Rattle.jobs_top.specs.declared.failure.Document.TheVariants.{Query as the_query, Records}
+use Rattle.jobs_top.specs.Answers.{AsksOfCommand, IsRefused, RefusesDocuments, ReportsFaultyFile}
+use Rattle.jobs_top.specs.Asking.{AsksUpToFile}
+use Rattle.jobs_top.specs.Documents.{IsRefusalOf, documents_in}
+use Rattle.jobs_top.specs.Failures.{failure_line, status_of}
+use Rattle.jobs_top.specs.Words.{Command}
 use Rattle.jobs_top.specs.declared.failure.Failure.{Failure}
-use Rattle.jobs_top.specs.declared.failure.Failure.TheVariants.{Query, Read, Memory}
+use Rattle.jobs_top.specs.declared.failure.Failure.TheVariants.{Query, Inputs, Plan, Read, Memory}
 use Rattle.jobs_top.specs.declared.status.Status.TheVariants.{Refused, ReadFault}
-use Rattle.jobs_top.proofs.AskingLemmas.{Asks-append}
 
--- the records are asked for behind the query
-pub Asks-records : (document : Document) (names : PreviewNames) (old middle new : Option KnownFiles) → Asks (names.query ∷ []) old middle
-    → (document ≡ Records) × Asks (names.file ∷ []) middle new → Asks (names_up_to document names) old new
-Asks-records the_query names old middle new a b = cc (b.0)
-Asks-records Records names old middle new a b = Asks-append (names.query ∷ []) (names.file ∷ []) old middle new a b.1
+-- where the words are no command nothing is asked for
+pub AsksOfCommand-none : (command : Option Command) (known : Option KnownFiles) → command ≡ None → AsksOfCommand command known known
+AsksOfCommand-none command known e = subst (λ (o : Option Command). AsksOfCommand o known known) (sym e) (Asks-none known)
 
-IsRefusal-from : (known : Option KnownFiles) (names : PreviewNames) (error : ParseErr) (before after : Option (List ℕ))
-    → IfSome known (λ files. HoldsNoScript (query_segment files names) error) → WritesPrefix (refused_line error) before after
-    → IfSome known (λ files. IsRefusal files names before after)
-IsRefusal-from None names error before after h line = tt
-IsRefusal-from (Some files) names error before after h line = record { error = error; cause = h; line = line }
+IsRefused-from : (known : Option KnownFiles) (command : Command) (failure : Failure) (before after : Option (List ℕ)) → status_of failure ≡ Refused
+    → IfSome known (λ files. IsRefusalOf (documents_in files command) failure) → WritesPrefix (failure_line failure) before after
+    → IfSome known (λ files. IsRefused files command before after)
+IsRefused-from None command failure before after s h line = tt
+IsRefused-from (Some files) command failure before after s h line = record { failure = failure; refused = s; cause = h; line = line }
 
 -- the answer of the status Refused
-pub RefusesQuery-from : (failure : Failure) (words : Option PreviewNames) (names : PreviewNames) (known : Option KnownFiles) (before after : Option (List ℕ))
-    → words ≡ Some names → status_of failure ≡ Refused
-    → ((error : ParseErr) → failure ≡ Query error → IfSome known (λ files. HoldsNoScript (query_segment files names) error))
-    → WritesPrefix (failure_line failure names) before after → RefusesQuery words known before after
-RefusesQuery-from (Query error) words names known before after e s h line =
-    subst (λ (o : Option PreviewNames). RefusesQuery o known before after) (sym e) (IsRefusal-from known names error before after (h error refl) line)
-RefusesQuery-from (Read document) words names known before after e s h line = cc
-RefusesQuery-from Memory words names known before after e s h line = cc
-
-faulty_file : (document : Document) (names : PreviewNames) (old new : Option KnownFiles) (before after : Option (List ℕ))
-    → Asks (names_up_to document names) old new → WritesPrefix (failure_line (Read document) names) before after
-    → NamesFaultyFile (files_of (Some names)) old new before after
-faulty_file the_query names old new before after asks line =
-    record { earlier = []; name = names.query; later = names.file ∷ []; among = refl; asks = asks; line = line }
-faulty_file Records names old new before after asks line =
-    record { earlier = names.query ∷ []; name = names.file; later = []; among = refl; asks = asks; line = line }
+pub RefusesDocuments-from : (failure : Failure) (words : Option Command) (command : Command) (known : Option KnownFiles) (before after : Option (List ℕ))
+    → words ≡ Some command → status_of failure ≡ Refused
+    → IfSome known (λ files. IsRefusalOf (documents_in files command) failure)
+    → WritesPrefix (failure_line failure) before after → RefusesDocuments words known before after
+RefusesDocuments-from failure words command known before after e s h line =
+    subst (λ (o : Option Command). RefusesDocuments o known before after) (sym e) (IsRefused-from known command failure before after s h line)
 
 -- the answer of the status ReadFault
-pub NamesFaultyFile-from : (failure : Failure) (words : Option PreviewNames) (names : PreviewNames) (old new : Option KnownFiles) (before after : Option (List ℕ))
-    → words ≡ Some names → status_of failure ≡ ReadFault → ((document : Document) → failure ≡ Read document → Asks (names_up_to document names) old new)
-    → WritesPrefix (failure_line failure names) before after → NamesFaultyFile (files_of words) old new before after
-NamesFaultyFile-from (Query error) words names old new before after e s h line = cc
-NamesFaultyFile-from (Read document) words names old new before after e s h line =
-    subst (λ (o : Option PreviewNames). NamesFaultyFile (files_of o) old new before after) (sym e) (faulty_file document names old new before after (h document refl) line)
-NamesFaultyFile-from Memory words names old new before after e s h line = cc
+pub ReportsFaultyFile-from : (failure : Failure) (words : Option Command) (command : Command) (old new : Option KnownFiles) (before after : Option (List ℕ))
+    → words ≡ Some command → status_of failure ≡ ReadFault → ((name : List ℕ) → failure ≡ Read name → AsksUpToFile command name old new)
+    → WritesPrefix (failure_line failure) before after → ReportsFaultyFile words old new before after
+ReportsFaultyFile-from (Query error) words command old new before after e s h line = cc
+ReportsFaultyFile-from (Inputs error) words command old new before after e s h line = cc
+ReportsFaultyFile-from (Plan error) words command old new before after e s h line = cc
+ReportsFaultyFile-from (Read name) words command old new before after e s h line =
+    subst (λ (o : Option Command). ReportsFaultyFile o old new before after) (sym e) (record { name = name; asks = h name refl; line = line })
+ReportsFaultyFile-from Memory words command old new before after e s h line = cc

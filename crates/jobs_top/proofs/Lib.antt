@@ -1,6 +1,4 @@
 pub mod AnswerLemmas
-pub mod AskingLemmas
-pub mod HearingLemmas
-pub mod JsonLemmas
-pub mod LinesLemmas
+pub mod RefusalLemmas
+pub mod TextLemmas
 pub mod WrittenLemmas

@@ -1,31 +1,33 @@
--- Why a command has no text, and the status that says so.
-use Rattle.std.specs.Prelude.{ℕ, List, [], ◌∷◌}
-use Rattle.jobs_top.specs.declared.failure.Document.{Document}
-use Rattle.jobs_top.specs.declared.failure.Document.TheVariants.{Query as the_query, Records}
+-- Why a command has no text, the status that says so, and its line.
+use Rattle.std.specs.Prelude.{ℕ, List}
+use Rattle.log_reading.specs.declared.named_read_err.NamedReadErr.{NamedReadErr}
+use Rattle.log_reading.specs.declared.named_read_err.NamedReadErr.TheVariants.{Fault, Memory as no_room}
 use Rattle.jobs_top.specs.declared.failure.Failure.{Failure}
-use Rattle.jobs_top.specs.declared.failure.Failure.TheVariants.{Query, Read, Memory}
+use Rattle.jobs_top.specs.declared.failure.Failure.TheVariants.{Query, Inputs, Plan, Read, Memory}
 use Rattle.jobs_top.specs.declared.status.Status.{Status}
-use Rattle.jobs_top.specs.declared.status.Status.TheVariants.{Refused, ReadFault, Memory as no_memory}
-use Rattle.jobs_top.specs.StatusLines.{refused_line, read_fault_line, memory_line}
-use Rattle.jobs_top.specs.Words.{PreviewNames}
+use Rattle.jobs_top.specs.declared.status.Status.TheVariants.{Refused, ReadFault, Memory as memory_status}
+use Rattle.jobs_top.specs.RefusalLines.{query_line, inputs_line, plan_line}
+use Rattle.jobs_top.specs.StatusLines.{read_fault_line, memory_line}
+
+abbrev pub no_memory : Failure
+no_memory = Memory
+
+-- the failure of a command where a file can't be read
+abbrev pub failure_of_read : NamedReadErr → Failure
+failure_of_read (Fault name) = Read name
+failure_of_read no_room = Memory
 
 abbrev pub status_of : Failure → Status
 status_of (Query error) = Refused
-status_of (Read document) = ReadFault
-status_of Memory = no_memory
-
--- the name of a file among the words
-abbrev pub document_name : Document → PreviewNames → List ℕ
-document_name the_query names = names.query
-document_name Records names = names.file
+status_of (Inputs error) = Refused
+status_of (Plan error) = Refused
+status_of (Read name) = ReadFault
+status_of Memory = memory_status
 
 -- the line of a failure
-abbrev pub failure_line : Failure → PreviewNames → List ℕ
-failure_line (Query error) names = refused_line error
-failure_line (Read document) names = read_fault_line (document_name document names)
-failure_line Memory names = memory_line
-
--- the files that are asked for up to one of them, in order
-abbrev pub names_up_to : Document → PreviewNames → List (List ℕ)
-names_up_to the_query names = names.query ∷ []
-names_up_to Records names = names.query ∷ names.file ∷ []
+abbrev pub failure_line : Failure → List ℕ
+failure_line (Query error) = query_line error
+failure_line (Inputs error) = inputs_line error
+failure_line (Plan error) = plan_line error
+failure_line (Read name) = read_fault_line name
+failure_line Memory = memory_line

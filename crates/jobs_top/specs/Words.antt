@@ -1,23 +1,34 @@
 -- The words of the command line (docs/GUIDE, "Words").
-use Rattle.std.specs.Prelude.{ℕ, List, [], ◌∷◌, ◌&&◌, codes, Option, Some, None, if◌then◌else◌}
+use Rattle.std.specs.Prelude.{ℕ, List, [], ◌∷◌, codes, Option, Some, None, option_map, if◌then◌else◌}
 use Rattle.std.specs.Str.{bytes_eq}
+use Rattle.jobs_top.specs.declared.words.Action.{Action}
+use Rattle.jobs_top.specs.declared.words.Action.TheVariants.{Preview, Check}
 
--- the names of the two files of a preview
-pub record PreviewNames : Type 0 where
+-- what is done, and the names of the files of its documents
+pub record Command : Type 0 where
+  pub action : Action
   pub query : List ℕ
-  pub file : List ℕ
+  pub inputs : List ℕ
 
--- the words `- preview QUERY FILE`, and no others
-abbrev pub preview_names : List (List ℕ) → Option PreviewNames
-preview_names [] = None
-preview_names (store ∷ []) = None
-preview_names (store ∷ command ∷ []) = None
-preview_names (store ∷ command ∷ query ∷ []) = None
-preview_names (store ∷ command ∷ query ∷ file ∷ []) =
-    if bytes_eq store (codes "-") && bytes_eq command (codes "preview") then Some (record { query = query; file = file }) else None
-preview_names (store ∷ command ∷ query ∷ file ∷ word ∷ words) = None
+-- what a word asks for
+abbrev pub action_of : List ℕ → Option Action
+action_of word =
+    if bytes_eq word (codes "preview") then Some Preview else
+    (if bytes_eq word (codes "check") then Some Check else None)
 
--- the files that a command may ask for, in order
-abbrev pub files_of : Option PreviewNames → List (List ℕ)
-files_of (Some names) = names.query ∷ names.file ∷ []
-files_of None = []
+abbrev pub command_with : List ℕ → List ℕ → Action → Command
+command_with query inputs action = record { action = action; query = query; inputs = inputs }
+
+-- the words `- preview QUERY INPUTS` and `- check QUERY INPUTS`, and no others
+abbrev pub command_of : List (List ℕ) → Option Command
+command_of [] = None
+command_of (store ∷ []) = None
+command_of (store ∷ word ∷ []) = None
+command_of (store ∷ word ∷ query ∷ []) = None
+command_of (store ∷ word ∷ query ∷ inputs ∷ []) =
+    if bytes_eq store (codes "-") then option_map (command_with query inputs) (action_of word) else None
+command_of (store ∷ word ∷ query ∷ inputs ∷ more ∷ words) = None
+
+-- the files of a command's documents, in order
+abbrev pub documents_of : Command → List (List ℕ)
+documents_of command = command.query ∷ command.inputs ∷ []

@@ -1,7 +1,6 @@
--- What contracts see of the words of a preview.
-use Rattle.jobs_top.specs.declared.words.PreviewWords.{PreviewWords}
-use Rattle.jobs_top.specs.Words.{PreviewNames}
+-- What contracts see of the words of a command.
+use Rattle.jobs_top.specs.declared.words.CommandWords.{CommandWords}
+use Rattle.jobs_top.specs.Words.{Command}
 
--- the names of its two files
-abbrev pub names_in : PreviewWords → PreviewNames
-names_in words = record { query = words.query.now; file = words.file.now }
+abbrev pub command_in : CommandWords → Command
+command_in words = record { action = words.action; query = words.query.now; inputs = words.inputs.now }

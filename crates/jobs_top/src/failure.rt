@@ -1,65 +1,58 @@
 //! `Failure`, why a command has no text.
 
 ghost use Rattle.std.specs.Prelude.{◌≡◌};
-ghost use Rattle.jobs_top.specs.Failures.{status_of, document_name};
-ghost use Rattle.jobs_top.specs.WordsView.{names_in};
+ghost use Rattle.jobs_top.specs.Failures.{failure_of_read, no_memory, status_of};
 
 use crate::Status;
-use crate::words::PreviewWords;
+use event_value::{Memory, Text};
+use input_book::InputErr;
+use log_reading::NamedReadErr;
 use query_parse::ParseErr;
-
-/// A file that a command names.
-#[derive(Clone, Copy, Debug, PartialEq, Eq)]
-pub enum Document {
-    /// The file of the query.
-    Query,
-    /// The file of the records.
-    Records,
-}
+use query_type::TypeErr;
 
 /// Why a command has no text.
-#[derive(Clone, Copy, Debug, PartialEq, Eq)]
+#[derive(Debug, Drop)]
 pub enum Failure {
-    /// The query has this refusal.
+    /// The query has this refusal as a text.
     Query(ParseErr),
-    /// This file could not be read.
-    Read(Document),
+    /// The inputs document has this refusal.
+    Inputs(InputErr),
+    /// The query has this refusal over the inputs.
+    Plan(TypeErr),
+    /// The file of this name can't be read.
+    Read(Text),
     /// There was no memory.
     Memory,
 }
 
-impl From<event_value::Memory> for Failure {
-    ghost use Rattle.std.specs.Prelude.{◌≡◌};
-    ghost use Rattle.jobs_top.specs.declared.failure.Failure.TheVariants.{Memory as no_memory};
-
+impl From<Memory> for Failure {
     ghost from_gives = { λ _ failure. failure ≡ no_memory };
 
-    fn from(_: event_value::Memory) -> Self {
+    fn from(_: Memory) -> Self {
         Failure::Memory
+    }
+}
+
+impl From<NamedReadErr> for Failure {
+    ghost from_gives = { λ error failure. failure ≡ failure_of_read error };
+
+    fn from(error: NamedReadErr) -> Self {
+        match error {
+            NamedReadErr::Fault(name) => Failure::Read(name),
+            NamedReadErr::Memory => Failure::Memory,
+        }
     }
 }
 
 impl Failure {
     /// The status of the call.
-    pub fn status(self) -> Status
-        ensures { result ≡ status_of self }
+    pub fn status(&self) -> Status
+        ensures { result ≡ status_of self.now }
     {
         match self {
-            Failure::Query(_) => Status::Refused,
+            Failure::Query(_) | Failure::Inputs(_) | Failure::Plan(_) => Status::Refused,
             Failure::Read(_) => Status::ReadFault,
             Failure::Memory => Status::Memory,
-        }
-    }
-}
-
-impl Document {
-    /// The name of the file among the command's words.
-    pub fn name<'a>(self, words: &PreviewWords<'a>) -> &'a [u8]
-        ensures { result.now ≡ document_name self (names_in words.now) }
-    {
-        match self {
-            Document::Query => words.query,
-            Document::Records => words.file,
         }
     }
 }

@@ -2,24 +2,25 @@
 //! `top` reads the words of the command line, carries out the command, writes its text or the line that
 //! says why not, and answers the `Status` that the process ends with.
 //! What matters: the clauses of `top`, a group for each status. The meaning: specs/Answers.antt over
-//! specs/Preview.antt (the text), specs/Judged.antt (events and dropped records), specs/Selected.antt
-//! (rows) and specs/JsonLines.antt (items).
+//! specs/Documents.antt (which documents are accepted) and specs/Texts.antt (the text of a command).
 //! It opens no file and no stream: jobs_cli hands in those of the system.
 #![tactic(auto)]
 
+mod acceptance;
 mod commands;
+mod documents;
 mod failure;
-mod fields;
-mod json_lines;
-mod judged;
-mod lines;
+mod labels;
+mod laws;
 mod preview;
-mod preview_run;
+mod refusal_lines;
 mod status;
 mod status_lines;
 #[cfg(test)]
 mod tests;
+mod texts;
 mod words;
 
 pub use commands::top;
+pub use laws::accepted_documents_are_not_refused;
 pub use status::Status;
