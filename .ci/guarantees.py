@@ -6,6 +6,7 @@ A line of the document that begins with one of these words names them in backquo
 - Meaning: `path`: `name`, ..
 - Refused bugs: `path`, ..
 - Tests: `path`: `name`, ..
+A row of a table whose last cell begins with the path of a definition names definitions too.
 """
 import pathlib
 import re
@@ -76,6 +77,9 @@ for number, text in enumerate((TOP / "docs/GUARANTEES.md").read_text().splitline
         check(names, number, "a line that names nothing")
         if names:
             KINDS[start.group(1)](number, names)
+    cell = re.match(r"\|.*\| (`crates/[^`]+`: [^|]*)\|$", text)
+    if cell:
+        meaning(number, NAMES.findall(cell.group(1)))
 
 for line in missing:
     print(line)
