@@ -26,7 +26,7 @@ use Rattle.query_meaning.specs.declared.ready.ReadyPlan.{ReadyPlan}
 use Rattle.job_core.specs.Gathered.{gathered, joined}
 use Rattle.job_core.specs.Heard.{LaneHeard, cut_lane, entries, events_from, heard_lane, is_closed, log_of, place_of, with_entries, with_lane}
 use Rattle.job_core.specs.Lane.{HasHeard, IsFed, IsReleased, IsSameLane, LaneStands, own_watermark}
-use Rattle.job_core.specs.Lanes.{AreAsMany, AreOfStreams, AreReleased, LaneName, LanesStand, least, name_of, replaced}
+use Rattle.job_core.specs.Lanes.{AreAsMany, AreOfStreams, AreReleased, LaneKind, LaneName, LanesStand, kind_of, least, name_of, replaced}
 use Rattle.job_core.specs.declared.lane.Lane.{Lane}
 use Rattle.job_core.proofs.LaneLemmas.{open-settled, own, still-open}
 use Rattle.job_core.proofs.StreamLemmas.{each_lane, gathered-picked, mark_of, picked, picked_of, rows-order, rows-picked, rows_of_picked, since_of, watermark-least}
@@ -58,15 +58,22 @@ insert-remove [] n x y h = absurd (None-Some h)
 insert-remove (z ∷ xs) zero x y h = refl
 insert-remove (z ∷ xs) (suc n) x y h = ap (λ l. z ∷ l) (insert-remove xs n x y h)
 
-names-same : (old new : Lane) → IsSameLane old new → name_of new ≡ name_of old
-names-same old new same =
+pub name-same : (old new : Lane) → IsSameLane old new → name_of new ≡ name_of old
+name-same old new same =
     ap (λ u. (let name : LaneName = record { used = u; partition = new.partition } in name)) same.used_is
     ∙ ap (λ n. (let name : LaneName = record { used = old.used; partition = n } in name)) same.partition_is
 
-pub names-replaced : (lanes : List Lane) (n : ℕ) (old new : Lane) → slice_get lanes n ≡ Some old → IsSameLane old new → map name_of (replaced n new lanes) ≡ map name_of lanes
-names-replaced [] n old new h same = refl
-names-replaced (lane ∷ lanes) zero old new h same = ap (λ name. name ∷ map name_of lanes) (names-same old new same ∙ ap name_of (sym (Some-is lane old h)))
-names-replaced (lane ∷ lanes) (suc n) old new h same = ap (λ names. name_of lane ∷ names) (names-replaced lanes n old new h same)
+pub kind-same : (old new : Lane) → IsSameLane old new → kind_of new ≡ kind_of old
+kind-same old new same =
+    ap (λ (name : LaneName). (let kind : LaneKind = record { used = name.used; partition = name.partition; throughs = new.throughs; ended = new.ended } in kind)) (name-same old new same)
+    ∙ ap (λ ts. (let kind : LaneKind = record { used = old.used; partition = old.partition; throughs = ts; ended = new.ended } in kind)) same.throughs_are
+    ∙ ap (λ b. (let kind : LaneKind = record { used = old.used; partition = old.partition; throughs = old.throughs; ended = b } in kind)) same.ended_is
+
+-- what is the same of a lane that was replaced
+pub each-replaced : {X : Type 0} (f : Lane → X) (lanes : List Lane) (n : ℕ) (old new : Lane) → slice_get lanes n ≡ Some old → f new ≡ f old → map f (replaced n new lanes) ≡ map f lanes
+each-replaced f [] n old new h same = refl
+each-replaced f (lane ∷ lanes) zero old new h same = ap (λ x. x ∷ map f lanes) (same ∙ ap f (sym (Some-is lane old h)))
+each-replaced f (lane ∷ lanes) (suc n) old new h same = ap (λ xs. f lane ∷ xs) (each-replaced f lanes n old new h same)
 
 pub stand-replaced : (policy : Policy) (lanes : List Lane) (heard : List LaneHeard) (w n : ℕ) (old new : Lane) (more : List LaneEntry) → slice_get lanes n ≡ Some old → w ≤ end_ticks
     → IsFed old more new → LanesStand policy lanes heard w
@@ -206,12 +213,14 @@ stand-released policy (lane ∷ lanes) news (k ∷ heard) w u rows le within sta
       stand-released policy lanes released.1 heard w u released.3 le (omega (arith, within)) stand.1 released.7,
     )
 
-pub names-released : (u : ℕ) (lanes news : List Lane) (rows : List (List Stamped)) → AreReleased u lanes news rows → map name_of news ≡ map name_of lanes
-names-released u [] news rows released = ap (map name_of) released.0
-names-released u (lane ∷ lanes) news rows released =
-    ap (map name_of) released.4
-    ∙ ap (λ name. name ∷ map name_of released.1) (names-same lane released.0 released.6.same)
-    ∙ ap (λ names. name_of lane ∷ names) (names-released u lanes released.1 released.3 released.7)
+-- what is the same of lanes from which rows were taken out
+pub each-released : {X : Type 0} (f : Lane → X) → ((old new : Lane) → IsSameLane old new → f new ≡ f old)
+    → (u : ℕ) (lanes news : List Lane) (rows : List (List Stamped)) → AreReleased u lanes news rows → map f news ≡ map f lanes
+each-released f same u [] news rows released = ap (map f) released.0
+each-released f same u (lane ∷ lanes) news rows released =
+    ap (map f) released.4
+    ∙ ap (λ x. x ∷ map f released.1) (same lane released.0 released.6.same)
+    ∙ ap (λ xs. f lane ∷ xs) (each-released f same u lanes released.1 released.3 released.7)
 
 -- between two moments
 abbrev pub is_between : ℕ → ℕ → ℕ → Bool

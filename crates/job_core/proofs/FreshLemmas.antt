@@ -1,5 +1,5 @@
 -- Lanes before their first entries.
-use Rattle.std.proofs.Common.{◌≡◌, ◌≤◌, ◌<◌, ℕ, ◌+◌, ◌^◌, Option, Some, None, List, [], ◌∷◌, ◌++◌, map, take, drop, length, refl, ap, sym, ◌∙◌, subst, append-nil, append_assoc, arith}
+use Rattle.std.proofs.Common.{◌≡◌, ◌≤◌, ◌<◌, ℕ, suc, ◌+◌, ◌^◌, Option, Some, None, List, [], ◌∷◌, ◌++◌, map, take, drop, length, refl, ap, sym, ◌∙◌, subst, append-nil, append_assoc, arith}
 use Rattle.std.specs.Prelude.{All, slice_get, pos, ◌≤ℤ◌}
 use Rattle.std.proofs.Math.Seq.{take-length, drop-length}
 use Rattle.std.proofs.lemmas.List.{drop-append-le, length-append, length-map, take-append-le}
@@ -11,7 +11,7 @@ use Rattle.input_book.specs.Laws.{IsPartition, IsStream, IsWellFormed}
 use Rattle.input_book.specs.declared.inputs.Inputs.{Inputs}
 use Rattle.input_book.specs.declared.inputs.Partition.{Partition}
 use Rattle.input_book.specs.declared.inputs.Stream.{Stream}
-use Rattle.job_core.specs.Fresh.{fresh_heard_of, fresh_lane, partitions_in, partitions_of}
+use Rattle.job_core.specs.Fresh.{fresh_heard_of, fresh_lane, kinds_from, lane_kind, lane_kinds, partitions_in, partitions_of}
 use Rattle.job_core.specs.Heard.{LaneHeard}
 use Rattle.job_core.specs.Lanes.{AreOfStream, AreOfStreams, LaneName, LanesStand, name_of}
 use Rattle.job_core.specs.declared.lane.Lane.{Lane}
@@ -71,3 +71,23 @@ partitions-fit inputs used h = by_stream (slice_get inputs.streams used.stream) 
           omega (arith, here),
           subst (λ (s : Stream). All IsPartition s.partitions) is (h.streams at stream lt).partitions,
         )
+
+-- ---- the kinds of lanes
+
+pub kinds_from-push : (used : StreamUse) (number : ℕ) (partitions : List Partition) (partition : Partition)
+    → kinds_from used number (partitions ++ partition ∷ []) ≡ kinds_from used number partitions ++ lane_kind used (number + length partitions) partition ∷ []
+kinds_from-push used number [] partition = ap (λ n. lane_kind used n partition ∷ []) (omega arith)
+kinds_from-push used number (first ∷ partitions) partition =
+    ap (λ kinds. lane_kind used number first ∷ kinds) (kinds_from-push used (number + 1) partitions partition)
+    ∙ ap (λ n. lane_kind used number first ∷ kinds_from used (number + 1) partitions ++ lane_kind used n partition ∷ []) (omega arith)
+
+pub length-kinds_from : (used : StreamUse) (number : ℕ) (partitions : List Partition) → length (kinds_from used number partitions) ≡ length partitions
+length-kinds_from used number [] = refl
+length-kinds_from used number (partition ∷ partitions) = ap suc (length-kinds_from used (number + 1) partitions)
+
+pub lane_kinds-push : (inputs : Inputs) (uses : List StreamUse) (used : StreamUse)
+    → lane_kinds inputs (uses ++ used ∷ []) ≡ lane_kinds inputs uses ++ kinds_from used 0 (partitions_of inputs used)
+lane_kinds-push inputs [] used = append-nil (kinds_from used 0 (partitions_of inputs used))
+lane_kinds-push inputs (first ∷ uses) used =
+    ap (λ kinds. kinds_from first 0 (partitions_of inputs first) ++ kinds) (lane_kinds-push inputs uses used)
+    ∙ sym (append_assoc (kinds_from first 0 (partitions_of inputs first)) (lane_kinds inputs uses) (kinds_from used 0 (partitions_of inputs used)))

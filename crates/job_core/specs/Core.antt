@@ -10,9 +10,21 @@ use Rattle.query_meaning.specs.Streams.{judge_of, rows_of_streams, watermark_of_
 use Rattle.job_core.specs.Batches.{batch_outputs, drops_since}
 use Rattle.job_core.specs.Heard.{LaneHeard, cut_lane, heard_lane, log_of, place_of, with_entries, with_lane}
 use Rattle.job_core.specs.Lane.{fed_entries}
-use Rattle.job_core.specs.Lanes.{AreOfStreams, LanesStand, name_of}
+use Rattle.job_core.specs.Lanes.{AreOfStreams, LanesStand, kind_of, name_of}
 use Rattle.job_core.specs.declared.job.Core.{Core}
+use Rattle.job_core.specs.declared.job.Rest.{Rest}
 use Rattle.job_core.specs.declared.lane.Lane.{Lane}
+
+-- the rest of a core, with these lanes
+abbrev pub with_lanes : Rest → List Lane → Core
+with_lanes rest lanes = record {
+  plan = rest.plan;
+  policy = rest.policy;
+  start = rest.start;
+  counts = rest.counts;
+  lanes = lanes;
+  pipeline = rest.pipeline;
+}
 
 -- the rows of a core's streams
 abbrev pub core_rows : Core → List LaneHeard → List (List Stamped)
@@ -34,12 +46,13 @@ abbrev pub IsWatermarkAt : Core → ℕ → LaneHeard → ℕ → Type 0
 IsWatermarkAt core place h mark = (lane : Lane) → slice_get core.lanes place ≡ Some lane
     → mark ≡ lane_watermark (judge_of core.policy lane.used) (heard_lane h)
 
--- it is a core of the same plan, policy, start and numbers of lanes
+-- it is a core of the same plan, policy, start and lanes
 pub record IsSameCore (old new : Core) : Type 0 where
   pub plan_is : new.plan ≡ old.plan
   pub policy_is : new.policy ≡ old.policy
   pub start_is : new.start ≡ old.start
   pub counts_are : new.counts ≡ old.counts
+  pub lanes_are : map kind_of new.lanes ≡ map kind_of old.lanes
 
 -- whatever the core stands for, the new core stands for that with the next entries of a lane
 abbrev pub IsFedAt : Core → ℕ → List Item → ℕ → Core → Type 0

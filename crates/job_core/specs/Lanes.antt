@@ -1,5 +1,5 @@
 -- The lanes of a core: which partitions of which streams they are, and what each stands for.
-use Rattle.std.specs.Prelude.{◌≡◌, ◌≤◌, ℕ, ◌+◌, List, [], ◌∷◌, ◌++◌, take, drop, length, map, min, zero, suc, Some, slice_get}
+use Rattle.std.specs.Prelude.{◌≡◌, ◌≤◌, ℕ, ◌+◌, Bool, List, [], ◌∷◌, ◌++◌, take, drop, length, map, min, zero, suc, Some, slice_get}
 use Rattle.event_value.specs.declared.plan.StreamUse.{StreamUse}
 use Rattle.event_value.specs.declared.policy.Policy.{Policy}
 use Rattle.event_value.specs.declared.record.Item.{Item}
@@ -16,6 +16,17 @@ pub record LaneName : Type 0 where
 
 abbrev pub name_of : Lane → LaneName
 name_of lane = record { used = lane.used; partition = lane.partition }
+
+-- which lane it is, the ends of its segments, and whether no more segments come
+pub record LaneKind : Type 0 where
+  pub used : StreamUse
+  pub partition : ℕ
+  pub throughs : List ℕ
+  pub ended : Bool
+
+abbrev pub kind_of : Lane → LaneKind
+kind_of lane =
+    record { used = lane.used; partition = lane.partition; throughs = lane.throughs; ended = lane.ended }
 
 -- the names are those of a stream's lanes, from this partition on
 abbrev pub AreOfStream : StreamUse → ℕ → List LaneName → Type 0

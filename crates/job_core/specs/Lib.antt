@@ -5,6 +5,7 @@ pub mod Fresh
 pub mod Lane
 pub mod Lanes
 pub mod Core
+pub mod Apart
 pub mod Schedule
 -- inside the crate
 pub mod Gathered

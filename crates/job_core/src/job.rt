@@ -1,8 +1,9 @@
 //! `Core`, the core of a running job.
 
-ghost use Rattle.std.specs.Prelude.{◌≡◌, ◌<◌, ◌-◌, ◌^◌, ℕ, List, Some, IsTrue, IfOk, length, min, slice_get};
+ghost use Rattle.std.specs.Prelude.{◌≡◌, ◌<◌, ◌-◌, ◌^◌, ℕ, List, Some, IsTrue, IfOk, length, map, min};
+ghost use Rattle.std.specs.Prelude.{slice_get};
 ghost use Rattle.input_book.specs.Laws.{IsWellFormed};
-ghost use Rattle.job_core.specs.Fresh.{fresh_heard};
+ghost use Rattle.job_core.specs.Fresh.{fresh_heard, lane_counts, lane_kinds};
 ghost use Rattle.job_core.specs.Heard.{LaneHeard, place_of};
 ghost use Rattle.query_meaning.specs.Ready.{ready_plan};
 
@@ -28,10 +29,40 @@ pub struct Core {
     pipeline: Pipeline,
 }
 
+/// A core without its lanes.
+#[derive(Drop)]
+pub struct Rest {
+    plan: ReadyPlan,
+    policy: Policy,
+    start: Moment,
+    counts: Seq<usize>,
+    pipeline: Pipeline,
+}
+
+impl Rest {
+    ghost use Rattle.job_core.specs.Core.{with_lanes};
+
+    /// The core of these lanes. It takes no memory.
+    ///
+    /// The lanes are those that were taken out of it, in order, whatever they have heard since.
+    pub fn put_lanes(self, lanes: Seq<Lane>) -> Core
+        ensures { result ≡ with_lanes self lanes }
+    {
+        Core {
+            plan: self.plan,
+            policy: self.policy,
+            start: self.start,
+            counts: self.counts,
+            lanes,
+            pipeline: self.pipeline,
+        }
+    }
+}
+
 impl Core {
     ghost use Rattle.job_core.specs.Core.{CoreStands, IsCut, IsFedAt, IsSameCore};
-    ghost use Rattle.job_core.specs.Core.{IsWatermarkAt, core_watermark};
-    ghost use Rattle.job_core.specs.Lanes.{HasUnreadIn};
+    ghost use Rattle.job_core.specs.Core.{IsWatermarkAt, core_watermark, with_lanes};
+    ghost use Rattle.job_core.specs.Lanes.{HasUnreadIn, kind_of};
 
     /// The core of a plan over these inputs that has heard nothing, with the snapshots of each
     /// reference that the plan names, in its order. It gives the rows from the start on.
@@ -50,6 +81,8 @@ impl Core {
         ensures plan { IfOk result (λ core. core.plan ≡ ready_plan plan.now inputs.now versions) }
         ensures policy { IfOk result (λ core. core.policy ≡ inputs.now.policy) }
         ensures start { IfOk result (λ core. core.start ≡ start) }
+        ensures lanes { IfOk result (λ core. map kind_of core.lanes ≡ lane_kinds inputs.now plan.now.streams) }
+        ensures counts { IfOk result (λ core. core.counts ≡ lane_counts inputs.now plan.now.streams) }
     {
         let ready = ready_plan(alloc, plan, inputs, versions.items())?;
         let pipeline = Pipeline::begin(alloc, &ready)?;
@@ -140,6 +173,20 @@ impl Core {
             lanes,
             pipeline: self.pipeline,
         })
+    }
+
+    /// Takes the lanes out, so that each can be fed by itself. It takes no memory.
+    pub fn take_lanes(self) -> (Rest, Seq<Lane>)
+        ensures { self ≡ with_lanes result.0 result.1 }
+    {
+        let rest = Rest {
+            plan: self.plan,
+            policy: self.policy,
+            start: self.start,
+            counts: self.counts,
+            pipeline: self.pipeline,
+        };
+        (rest, self.lanes)
     }
 
     /// Gives the rows that are final since the last cut, and the dropped records since then.

@@ -90,6 +90,20 @@ impl Lane {
         }
     }
 
+    /// The place of its stream in the inputs document. It takes no memory.
+    pub fn stream(&self) -> u16
+        ensures { result ≡ self.now.used.stream }
+    {
+        self.used.stream
+    }
+
+    /// The number of its partition in the stream. It takes no memory.
+    pub fn partition(&self) -> u16
+        ensures { result ≡ self.now.partition }
+    {
+        self.partition
+    }
+
     /// The place before the lane's next entry. It takes no memory.
     pub fn place(&self) -> Position
         ensures { result ≡ self.now.place }

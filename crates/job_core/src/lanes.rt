@@ -6,7 +6,7 @@ ghost use Rattle.job_core.specs.Fresh as fresh;
 ghost use Rattle.job_core.specs.Gathered.{joined};
 ghost use Rattle.job_core.specs.Lane.{LaneStands, own_watermark};
 ghost use Rattle.job_core.specs.Lanes.{AreOfStream, AreOfStreams, AreReleased, HasUnreadIn, IsFedIn};
-ghost use Rattle.job_core.specs.Lanes.{LanesStand, least, name_of};
+ghost use Rattle.job_core.specs.Lanes.{LanesStand, kind_of, least, name_of};
 ghost use Rattle.job_core.specs.declared.lane.Lane.{Lane as Held};
 
 use crate::Lane;
@@ -28,6 +28,9 @@ pub fn fresh_lanes(
 ) -> Result<(Seq<usize>, Seq<Lane>), Memory>
     requires { IsWellFormed inputs.now }
     ensures of { IfOk result (λ (counts, lanes). AreOfStreams uses.now counts (map name_of lanes)) }
+    ensures counts { IfOk result (λ (counts, lanes). counts ≡ fresh.lane_counts inputs.now uses.now) }
+    ensures kinds { IfOk result (λ (counts, lanes).
+        map kind_of lanes ≡ fresh.lane_kinds inputs.now uses.now) }
     ensures stand { IfOk result (λ (counts, lanes).
         LanesStand inputs.now.policy lanes (fresh.fresh_heard_of inputs.now uses.now) 0) }
 {
@@ -45,6 +48,8 @@ pub fn fresh_lanes(
 fn stream_lanes(alloc: Global, inputs: &Inputs, used: &StreamUse) -> Result<Seq<Lane>, Memory>
     requires { IsWellFormed inputs.now }
     ensures of { IfOk result (λ lanes. AreOfStream used.now 0 (map name_of lanes)) }
+    ensures kinds { IfOk result (λ lanes.
+        map kind_of lanes ≡ fresh.kinds_from used.now 0 (fresh.partitions_of inputs.now used.now)) }
     ensures stand { IfOk result (λ lanes. LanesStand inputs.now.policy lanes
         (map fresh.fresh_lane (fresh.partitions_of inputs.now used.now)) 0) }
 {
@@ -74,6 +79,7 @@ fn partition_lanes(
     requires count { length partitions.now < 2 ^ 16 }
     requires segments { All IsPartition partitions.now }
     ensures of { IfOk result (λ lanes. AreOfStream used.now 0 (map name_of lanes)) }
+    ensures kinds { IfOk result (λ lanes. map kind_of lanes ≡ fresh.kinds_from used.now 0 partitions.now) }
     ensures stand { IfOk result (λ lanes.
         LanesStand policy.now lanes (map fresh.fresh_lane partitions.now) 0) }
 {
@@ -97,8 +103,7 @@ fn start_lane(
     requires late { pos 0 ≤ℤ policy.now.late }
     requires disorder { pos 0 ≤ℤ policy.now.disorder }
     requires segments { length partition.now.segments < 2 ^ 32 }
-    ensures used { IfOk result (λ lane. lane.used ≡ used.now) }
-    ensures partition { IfOk result (λ lane. lane.partition ≡ number) }
+    ensures kind { IfOk result (λ lane. kind_of lane ≡ fresh.lane_kind used.now number partition.now) }
     ensures stands { IfOk result (λ lane.
         LaneStands policy.now lane (fresh.fresh_lane partition.now) 0) }
 {

@@ -16,6 +16,6 @@ mod lists;
 #[cfg(test)]
 mod tests;
 
-pub use job::Core;
+pub use job::{Core, Rest};
 pub use lane::{Lane, Released};
-pub use laws::any_schedule;
+pub use laws::{any_schedule, lanes_are_fed_apart};

@@ -2,29 +2,32 @@
 use Rattle.std.proofs.Common.{◌≡◌, ◌⊎◌, inl, inr, ℕ, List, [], ◌∷◌, ◌++◌, Option, Some, None, refl, ap, sym, subst, ◌∙◌, append_assoc}
 use Rattle.std.proofs.lemmas.List.{append-nil}
 use Rattle.std.specs.Option.{IfSome}
-use Rattle.event_value.specs.declared.plan.StreamUse.{StreamUse}
+use Rattle.checkpoint_form.specs.declared.batch.Batch.{Batch}
+use Rattle.checkpoint_form.specs.declared.batch.Row.{Row}
 use Rattle.event_value.specs.declared.record.Dropped.{Dropped}
-use Rattle.event_value.specs.declared.record.Stamped.{Stamped}
 use Rattle.input_book.proofs.WellFormedLemmas.{accepted-well_formed}
 use Rattle.input_book.specs.Laws.{IsWellFormed}
 use Rattle.input_book.specs.declared.inputs.Inputs.{Inputs}
+use Rattle.job_core.specs.Batches.{printed_outputs}
 use Rattle.log_reading.proofs.AskingLemmas.{Asks-append, Asks-none, AsksOnErr-among, AsksPrefixOf-all}
-use Rattle.log_reading.proofs.HearingLemmas.{IfSome-before, both}
+use Rattle.log_reading.proofs.KnownLemmas.{IfSome-before, both}
 use Rattle.log_reading.specs.Asking.{Asks, AsksOnErr, AsksPrefixOf, AsksUpTo}
-use Rattle.log_reading.specs.Log.{log_files, log_in}
+use Rattle.log_reading.specs.Batch.{IsWholeBatch}
+use Rattle.log_reading.specs.Log.{log_files}
 use Rattle.log_reading.specs.References.{references_files, references_in}
-use Rattle.log_reading.specs.declared.kept_log.KeptLog.{KeptLog}
 use Rattle.log_reading.specs.declared.named_read_err.NamedReadErr.{NamedReadErr}
 use Rattle.log_reading.specs.declared.named_read_err.NamedReadErr.TheVariants.{Fault, Memory}
 use Rattle.outside.specs.KnownFiles.{KnownFiles, files_after_asking}
 use Rattle.outside.specs.declared.segment.Segment.{Segment}
 use Rattle.outside.specs.declared.segment.Segment.TheVariants.{Bytes, TooLong}
-use Rattle.query_meaning.specs.Streams.{drops_of_streams, rows_of_streams}
+use Rattle.preview_text.specs.PreviewText.{preview_text}
+use Rattle.query_meaning.specs.Ready.{ready_plan}
+use Rattle.query_meaning.specs.Streams.{Log}
 use Rattle.stream_joins.specs.Snapshots.{Snapshots}
 use Rattle.jobs_top.specs.Asking.{AsksInOrder, AsksUpToFile}
 use Rattle.jobs_top.specs.Documents.{HoldsInputs, IsAccepted, documents_in}
 use Rattle.jobs_top.specs.Failures.{failure_of_read}
-use Rattle.jobs_top.specs.Texts.{AreDocumentsAndLog, IsTextOf, MayAsk, log_of, preview_by, preview_files_of, preview_of, preview_over, snapshots_of, text_of}
+use Rattle.jobs_top.specs.Texts.{AreDocumentsAndLog, IsTextOf, MayAsk, log_of, preview_files_of, preview_of, preview_over, rows_over, text_of}
 use Rattle.jobs_top.specs.Words.{Command, documents_of}
 use Rattle.jobs_top.specs.declared.acceptance.Accepted.{Accepted}
 use Rattle.jobs_top.specs.declared.documents.Documents.{Documents}
@@ -36,43 +39,33 @@ pub HoldsInputs-well_formed : (segment : Segment) (inputs : Inputs) → HoldsInp
 HoldsInputs-well_formed (Bytes text) inputs h = accepted-well_formed inputs (text, h)
 HoldsInputs-well_formed TooLong inputs h = absurd h
 
--- the text over the snapshots and the log that were read is that over those that the files hold
-preview_of-log : (files : Option KnownFiles) (accepted : Accepted) (snapshots : List Snapshots) (log : KeptLog) (text : List ℕ)
-    → IfSome files (λ known. snapshots ≡ snapshots_of known accepted)
-    → IfSome files (λ known. log.rows ≡ rows_of_streams accepted.inputs.policy accepted.plan.streams (log_of known accepted))
-    → IfSome files (λ known. log.drops ≡ drops_of_streams accepted.inputs.policy accepted.plan.streams (log_of known accepted))
-    → text ≡ preview_by accepted snapshots log.rows log.drops → IfSome files (λ known. text ≡ preview_of known accepted)
-preview_of-log files accepted snapshots log text held rows drops is =
-    both files (λ (known : KnownFiles). snapshots ≡ snapshots_of known accepted) (λ (known : KnownFiles). text ≡ preview_over accepted snapshots (log_of known accepted))
-    (λ (known : KnownFiles). text ≡ preview_of known accepted)
-    (λ known a b. b ∙ ap (λ (s : List Snapshots). preview_over accepted s (log_of known accepted)) a)
-    held
-    (both files (λ (known : KnownFiles). log.rows ≡ rows_of_streams accepted.inputs.policy accepted.plan.streams (log_of known accepted))
-    (λ (known : KnownFiles). log.drops ≡ drops_of_streams accepted.inputs.policy accepted.plan.streams (log_of known accepted))
-    (λ (known : KnownFiles). text ≡ preview_over accepted snapshots (log_of known accepted))
-    (λ known a b.
-    is ∙ ap (λ (rs : List (List Stamped)). preview_by accepted snapshots rs log.drops) a
-    ∙ ap (λ (ds : List Dropped). preview_by accepted snapshots (rows_of_streams accepted.inputs.policy accepted.plan.streams (log_of known accepted)) ds) b)
-    rows drops)
+-- the text of a batch over a log that was read whole
+batch-text : (accepted : Accepted) (snapshots : List Snapshots) (log : Log) (batch : Batch) (text : List ℕ)
+    → IsWholeBatch (ready_plan accepted.plan accepted.inputs snapshots) accepted.inputs.policy log batch
+    → text ≡ preview_text accepted.plan.outputs batch.outputs accepted.inputs.streams batch.drops → text ≡ preview_over accepted snapshots log
+batch-text accepted snapshots log batch text whole is =
+    is
+    ∙ ap (λ (rows : List (List Row)). preview_text accepted.plan.outputs rows accepted.inputs.streams batch.drops) whole.outputs_are
+    ∙ ap (λ (ds : List Dropped). preview_text accepted.plan.outputs (printed_outputs 0 accepted.plan.outputs (rows_over accepted snapshots log)) accepted.inputs.streams ds) whole.drops_are
 
-pub preview_of-read : (old middle : Option KnownFiles) (accepted : Accepted) (numbers : List ℕ) (used : List StreamUse) (snapshots given : List Snapshots) (log : KeptLog) (text : List ℕ)
-    → numbers ≡ accepted.plan.references → used ≡ accepted.plan.streams → given ≡ snapshots
+-- the text over the snapshots and the log that were read is that over those that the files hold
+pub preview_of-read : (old middle : Option KnownFiles) (accepted : Accepted) (numbers : List ℕ) (snapshots : List Snapshots) (batch : Batch) (text : List ℕ)
+    → numbers ≡ accepted.plan.references
     → Asks (references_files accepted.inputs.references numbers) old middle
     → IfSome old (λ known. snapshots ≡ references_in known accepted.inputs.references numbers)
-    → IfSome middle (λ known. log.rows ≡ rows_of_streams accepted.inputs.policy used (log_in known accepted.inputs.streams used))
-    → IfSome middle (λ known. log.drops ≡ drops_of_streams accepted.inputs.policy used (log_in known accepted.inputs.streams used))
-    → text ≡ preview_by accepted given log.rows log.drops → IfSome old (λ known. text ≡ preview_of known accepted)
-preview_of-read old middle accepted numbers used snapshots given log text n e g asks held rows drops is =
-    preview_of-log old accepted snapshots log text
-    (subst (λ (ns : List ℕ). IfSome old (λ known. snapshots ≡ references_in known accepted.inputs.references ns)) n held)
-    (before (λ known. log.rows ≡ rows_of_streams accepted.inputs.policy accepted.plan.streams (log_of known accepted)) (λ known left h. h)
-    (subst (λ (u : List StreamUse). IfSome middle (λ known. log.rows ≡ rows_of_streams accepted.inputs.policy u (log_in known accepted.inputs.streams u))) e rows))
-    (before (λ known. log.drops ≡ drops_of_streams accepted.inputs.policy accepted.plan.streams (log_of known accepted)) (λ known left h. h)
-    (subst (λ (u : List StreamUse). IfSome middle (λ known. log.drops ≡ drops_of_streams accepted.inputs.policy u (log_in known accepted.inputs.streams u))) e drops))
-    (is ∙ ap (λ (s : List Snapshots). preview_by accepted s log.rows log.drops) g)
-  where
-    before : (P : KnownFiles → Type 0) → ((known : KnownFiles) (left : List ℕ) → P (files_after_asking (references_files accepted.inputs.references numbers) left known) → P known) → IfSome middle P → IfSome old P
-    before P same h = IfSome-before P (references_files accepted.inputs.references numbers) old middle same asks h
+    → IfSome middle (λ known. IsWholeBatch (ready_plan accepted.plan accepted.inputs snapshots) accepted.inputs.policy (log_of known accepted) batch)
+    → text ≡ preview_text accepted.plan.outputs batch.outputs accepted.inputs.streams batch.drops → IfSome old (λ known. text ≡ preview_of known accepted)
+preview_of-read old middle accepted numbers snapshots batch text n asks held whole is =
+    both old (λ (known : KnownFiles). snapshots ≡ references_in known accepted.inputs.references numbers)
+    (λ (known : KnownFiles). IsWholeBatch (ready_plan accepted.plan accepted.inputs snapshots) accepted.inputs.policy (log_of known accepted) batch)
+    (λ (known : KnownFiles). text ≡ preview_of known accepted)
+    (λ known a b.
+    batch-text accepted snapshots (log_of known accepted) batch text b is
+    ∙ ap (λ (s : List Snapshots). preview_over accepted s (log_of known accepted)) a
+    ∙ ap (λ (ns : List ℕ). preview_over accepted (references_in known accepted.inputs.references ns) (log_of known accepted)) n)
+    held
+    (IfSome-before (λ (known : KnownFiles). IsWholeBatch (ready_plan accepted.plan accepted.inputs snapshots) accepted.inputs.policy (log_of known accepted) batch)
+    (references_files accepted.inputs.references numbers) old middle (λ known left h. h) asks whole)
 
 -- ---- the files of a preview
 
@@ -84,30 +77,28 @@ AsksOnErr-references error accepted numbers old new n w =
     (ap (λ (ns : List ℕ). references_files accepted.inputs.references ns ++ log_files accepted.inputs.streams accepted.plan.streams) n)
     (Asks-none old) w
 
-preview_files-are : (accepted : Accepted) (numbers : List ℕ) (used : List StreamUse) → numbers ≡ accepted.plan.references → used ≡ accepted.plan.streams
-    → references_files accepted.inputs.references numbers ++ log_files accepted.inputs.streams used ≡ preview_files_of accepted
-preview_files-are accepted numbers used n e =
-    ap (λ (ns : List ℕ). references_files accepted.inputs.references ns ++ log_files accepted.inputs.streams used) n
-    ∙ ap (λ (u : List StreamUse). references_files accepted.inputs.references accepted.plan.references ++ log_files accepted.inputs.streams u) e
+preview_files-are : (accepted : Accepted) (numbers : List ℕ) → numbers ≡ accepted.plan.references
+    → references_files accepted.inputs.references numbers ++ log_files accepted.inputs.streams accepted.plan.streams ≡ preview_files_of accepted
+preview_files-are accepted numbers n =
+    ap (λ (ns : List ℕ). references_files accepted.inputs.references ns ++ log_files accepted.inputs.streams accepted.plan.streams) n
 
 -- an error at the log behind them
-pub AsksOnErr-behind : (error : NamedReadErr) (accepted : Accepted) (numbers : List ℕ) (used : List StreamUse) (old middle new : Option KnownFiles)
-    → numbers ≡ accepted.plan.references → used ≡ accepted.plan.streams
-    → Asks (references_files accepted.inputs.references numbers) old middle → AsksOnErr (log_files accepted.inputs.streams used) error middle new
+pub AsksOnErr-behind : (error : NamedReadErr) (accepted : Accepted) (numbers : List ℕ) (old middle new : Option KnownFiles) → numbers ≡ accepted.plan.references
+    → Asks (references_files accepted.inputs.references numbers) old middle → AsksOnErr (log_files accepted.inputs.streams accepted.plan.streams) error middle new
     → AsksOnErr (preview_files_of accepted) error old new
-AsksOnErr-behind error accepted numbers used old middle new n e a w =
-    AsksOnErr-among error (references_files accepted.inputs.references numbers) (log_files accepted.inputs.streams used) [] (preview_files_of accepted) old middle new
-    (ap (λ (names : List (List ℕ)). references_files accepted.inputs.references numbers ++ names) (append-nil (log_files accepted.inputs.streams used)) ∙ preview_files-are accepted numbers used n e)
+AsksOnErr-behind error accepted numbers old middle new n a w =
+    let log = log_files accepted.inputs.streams accepted.plan.streams in
+    AsksOnErr-among error (references_files accepted.inputs.references numbers) log [] (preview_files_of accepted) old middle new
+    (ap (λ (names : List (List ℕ)). references_files accepted.inputs.references numbers ++ names) (append-nil log) ∙ preview_files-are accepted numbers n)
     a w
 
 -- both were read
-pub Asks-preview : (accepted : Accepted) (numbers : List ℕ) (used : List StreamUse) (old middle new : Option KnownFiles)
-    → numbers ≡ accepted.plan.references → used ≡ accepted.plan.streams
-    → Asks (references_files accepted.inputs.references numbers) old middle → Asks (log_files accepted.inputs.streams used) middle new
+pub Asks-preview : (accepted : Accepted) (numbers : List ℕ) (old middle new : Option KnownFiles) → numbers ≡ accepted.plan.references
+    → Asks (references_files accepted.inputs.references numbers) old middle → Asks (log_files accepted.inputs.streams accepted.plan.streams) middle new
     → Asks (preview_files_of accepted) old new
-Asks-preview accepted numbers used old middle new n e a b =
-    subst (λ (names : List (List ℕ)). Asks names old new) (preview_files-are accepted numbers used n e)
-    (Asks-append (references_files accepted.inputs.references numbers) (log_files accepted.inputs.streams used) old middle new a b)
+Asks-preview accepted numbers old middle new n a b =
+    subst (λ (names : List (List ℕ)). Asks names old new) (preview_files-are accepted numbers n)
+    (Asks-append (references_files accepted.inputs.references numbers) (log_files accepted.inputs.streams accepted.plan.streams) old middle new a b)
 
 -- ---- the documents
 

@@ -1,15 +1,15 @@
 -- The text of a command (docs/GUIDE, "Printed text"), and the files that it may ask for.
 use Rattle.std.specs.Prelude.{◌≡◌, ◌⊎◌, ℕ, List, ◌++◌, codes, Option, IfSome}
-use Rattle.event_value.specs.declared.record.Dropped.{Dropped}
 use Rattle.event_value.specs.declared.record.Stamped.{Stamped}
+use Rattle.job_core.specs.Batches.{printed_outputs}
 use Rattle.log_reading.specs.Log.{log_in, log_files}
 use Rattle.log_reading.specs.References.{references_files, references_in}
 use Rattle.outside.specs.KnownFiles.{KnownFiles}
 use Rattle.preview_text.specs.PreviewText.{preview_text}
 use Rattle.query_meaning.specs.Lists.{all_below}
-use Rattle.query_meaning.specs.Meaning.{outputs_over}
+use Rattle.query_meaning.specs.Meaning.{rows_of_outputs}
 use Rattle.query_meaning.specs.Ready.{ready_plan}
-use Rattle.query_meaning.specs.Streams.{Log, drops_of_streams, rows_of_streams}
+use Rattle.query_meaning.specs.Streams.{Log, drops_of_streams}
 use Rattle.query_print.specs.Scripts.{canonical_text}
 use Rattle.tick_time.specs.Moment.{end_ticks}
 use Rattle.stream_joins.specs.Snapshots.{Snapshots}
@@ -28,22 +28,17 @@ abbrev pub snapshots_of : KnownFiles → Accepted → List Snapshots
 snapshots_of files accepted =
     references_in files accepted.inputs.references accepted.plan.references
 
--- the rows of the outputs by those of the streams, all of which are below the end of time
-abbrev pub rows_by : Accepted → List Snapshots → List (List Stamped) → List (List Stamped)
-rows_by accepted snapshots rows =
-    all_below end_ticks (outputs_over (ready_plan accepted.plan accepted.inputs snapshots) rows)
+-- the rows of the outputs over a log, all of which are below the end of time
+abbrev pub rows_over : Accepted → List Snapshots → Log → List (List Stamped)
+rows_over accepted snapshots log = all_below end_ticks
+    (rows_of_outputs (ready_plan accepted.plan accepted.inputs snapshots) accepted.inputs.policy log)
 
--- the preview with these snapshots, these rows of the streams and these dropped records
-abbrev pub preview_by : Accepted → List Snapshots → List (List Stamped) → List Dropped → List ℕ
-preview_by accepted snapshots rows drops =
-    preview_text accepted.plan.outputs (rows_by accepted snapshots rows)
-    accepted.inputs.streams drops
-
--- the preview over a log
+-- the preview over a log: the rows from the first moment on, printed, and the dropped records
 abbrev pub preview_over : Accepted → List Snapshots → Log → List ℕ
 preview_over accepted snapshots log =
-    preview_by accepted snapshots
-    (rows_of_streams accepted.inputs.policy accepted.plan.streams log)
+    preview_text accepted.plan.outputs
+    (printed_outputs 0 accepted.plan.outputs (rows_over accepted snapshots log))
+    accepted.inputs.streams
     (drops_of_streams accepted.inputs.policy accepted.plan.streams log)
 
 -- the preview over the snapshots and the log that the files hold

@@ -1,19 +1,17 @@
-//! The text of a preview: snapshots and log are read, the plan's rows are computed, and both are printed.
+//! The text of a preview: the snapshots are read, then a core is fed the log and cut once, and its batch
+//! is printed.
 
 ghost use Rattle.std.specs.Prelude.{◌≡◌, ◌≤◌, IfOk, IfSome};
 ghost use Rattle.input_book.specs.Laws.{IsWellFormed};
-ghost use Rattle.query_meaning.specs.Lists.{AllInOrder};
 ghost use Rattle.log_reading.specs.Asking.{AsksUntil, IsCaused};
-ghost use Rattle.jobs_top.specs.Texts.{preview_files_of, preview_by, preview_of};
+ghost use Rattle.jobs_top.specs.Texts.{preview_files_of, preview_of};
 
 use crate::acceptance::Accepted;
-use event_value::{Memory, Text};
-use log_reading::{KeptLog, NamedReadErr, read_log, read_references};
+use event_value::Text;
+use log_reading::{NamedReadErr, read_batch, read_references};
 use outside::Files;
 use preview_text::print_preview;
-use query_meaning::{ready_plan, whole_rows};
 use std::alloc::Global;
-use stream_joins::Versions;
 
 /// The preview of an accepted query over its inputs.
 ///
@@ -30,30 +28,10 @@ pub fn preview<F: Files>(
     ensures never_falls { F.faults files.old ≤ F.faults files.new }
     ensures cause { IsCaused result (F.faults files.old) (F.faults files.new) }
 {
-    let plan = &accepted.plan;
-    let versions = read_references(alloc, files, &accepted.inputs, plan.references.items())?;
-    let log = read_log(alloc, files, &accepted.inputs, plan.streams.items())?;
-    Ok(print_log(alloc, accepted, versions.items(), &log)?)
-}
-
-/// The preview over snapshots and a log that were read.
-fn print_log(
-    alloc: Global,
-    accepted: &Accepted,
-    versions: &[Versions],
-    log: &KeptLog,
-) -> Result<Text, Memory>
-    requires { AllInOrder log.now.rows }
-    ensures { IfOk result (λ text.
-        text ≡ preview_by accepted.now versions.now log.now.rows log.now.drops) }
-{
-    let plan = ready_plan(alloc, &accepted.plan, &accepted.inputs, versions)?;
-    let rows = whole_rows(alloc, &plan, log.rows.items())?;
-    print_preview(
-        alloc,
-        plan.outputs.items(),
-        rows.items(),
-        accepted.inputs.streams.items(),
-        log.drops.items(),
-    )
+    let (plan, inputs) = (&accepted.plan, &accepted.inputs);
+    let versions = read_references(alloc, files, inputs, plan.references.items())?;
+    let batch = read_batch(alloc, files, plan, inputs, versions)?;
+    let (outputs, streams) = (plan.outputs.items(), inputs.streams.items());
+    let (rows, drops) = (batch.outputs.items(), batch.drops.items());
+    Ok(print_preview(alloc, outputs, rows, streams, drops)?)
 }

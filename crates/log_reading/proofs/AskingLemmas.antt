@@ -1,10 +1,10 @@
 -- Files that are asked for one after the other.
-use Rattle.std.proofs.Common.{◌≡◌, ℕ, ◌+◌, ◌<◌, List, [], ◌∷◌, ◌++◌, length, drop, get_or, Option, Some, None, refl, ap, sym, subst, ◌∙◌, append_assoc}
+use Rattle.std.proofs.Common.{◌≡◌, ℕ, ◌+◌, ◌<◌, List, [], ◌∷◌, ◌++◌, length, drop, get_or, Option, Some, None, Result, refl, ap, sym, subst, ◌∙◌, append_assoc}
 use Rattle.std.proofs.lemmas.List.{append-nil, at_drop_more}
 use Rattle.std.specs.List.{flat_map}
 use Rattle.std.specs.Option.{option_map}
 use Rattle.outside.specs.KnownFiles.{KnownFiles, files_after_asking}
-use Rattle.log_reading.specs.Asking.{Asks, AsksAllBut, AsksOnErr, AsksPrefixOf, AsksUpTo}
+use Rattle.log_reading.specs.Asking.{Asks, AsksAllBut, AsksOnErr, AsksPrefixOf, AsksUntil, AsksUpTo}
 use Rattle.log_reading.specs.declared.named_read_err.NamedReadErr.{NamedReadErr}
 use Rattle.log_reading.specs.declared.named_read_err.NamedReadErr.TheVariants.{Fault, Memory}
 
@@ -37,6 +37,19 @@ Asks-append first more old middle new a b = record {
 
 pub AsksPrefixOf-all : (names : List (List ℕ)) (old new : Option KnownFiles) → Asks names old new → AsksPrefixOf names old new
 AsksPrefixOf-all names old new a = record { front = names; rest = []; whole = append-nil names; asks = a }
+
+-- the same files, by other words
+pub Asks-same : (names others : List (List ℕ)) (old new : Option KnownFiles) → names ≡ others → Asks names old new → Asks others old new
+Asks-same names others old new is a = subst (λ (all : List (List ℕ)). Asks all old new) is a
+
+pub AsksOnErr-same : (error : NamedReadErr) (names others : List (List ℕ)) (old new : Option KnownFiles) → names ≡ others → AsksOnErr names error old new → AsksOnErr others error old new
+AsksOnErr-same error names others old new is a = subst (λ (all : List (List ℕ)). AsksOnErr all error old new) is a
+
+pub AsksUntil-same : {A : Type 0} (result : Result A NamedReadErr) (names others : List (List ℕ)) (old new : Option KnownFiles) → names ≡ others → AsksUntil names result old new → AsksUntil others result old new
+AsksUntil-same result names others old new is a = subst (λ (all : List (List ℕ)). AsksUntil all result old new) is a
+
+pub AsksPrefixOf-none : (names : List (List ℕ)) (known : Option KnownFiles) → AsksPrefixOf names known known
+AsksPrefixOf-none names known = record { front = []; rest = names; whole = refl; asks = Asks-none known }
 
 -- behind files that were asked for, and before some that weren't
 pub AsksPrefixOf-among : (first more rest names : List (List ℕ)) (old middle new : Option KnownFiles) → first ++ (more ++ rest) ≡ names

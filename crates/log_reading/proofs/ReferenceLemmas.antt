@@ -15,7 +15,7 @@ use Rattle.row_order.specs.InOrder.{AllFrom}
 use Rattle.stream_joins.specs.Snapshots.{Ascend, Snapshots}
 use Rattle.log_reading.specs.Asking.{Asks}
 use Rattle.log_reading.specs.References.{effective_moments, rows_of_file, snapshots_found, snapshots_in}
-use Rattle.log_reading.proofs.HearingLemmas.{IfSome-before, at_none, both}
+use Rattle.log_reading.proofs.KnownLemmas.{IfSome-before, at_none, both}
 use Rattle.log_reading.proofs.LogLemmas.{All-slice_get}
 
 -- each of these is what the files say of one of those

@@ -2,6 +2,9 @@
 pub mod Asking
 pub mod Log
 pub mod References
+pub mod Batch
 -- inside the crate
-pub mod Hearing
-pub mod KeptRows
+pub mod Ended
+pub mod Places
+pub mod Feeding
+pub mod Core

@@ -1,88 +1,70 @@
-//! `read_log`, which reads the log of the streams that a plan uses.
+//! `read_batch`, which reads the log of the streams that a plan uses and gives all its rows.
 
-ghost use Rattle.std.specs.Prelude.{◌≡◌, ◌≤◌, IfOk, IfSome, option_map, slice_get};
+ghost use Rattle.std.specs.Prelude.{◌≡◌, ◌≤◌, IfOk, IfSome};
 ghost use Rattle.input_book.specs.Laws.{IsWellFormed};
-ghost use Rattle.query_meaning.specs.Lists.{AllInOrder};
-ghost use Rattle.query_meaning.specs.Streams.{rows_of_streams, drops_of_streams};
+ghost use Rattle.query_meaning.specs.Ready.{ready_plan};
 ghost use Rattle.log_reading.specs.Asking.{AsksUntil, IsCaused};
-ghost use Rattle.log_reading.specs.Hearing.{AreKeptOf};
-ghost use Rattle.log_reading.specs.Log.{log_in, log_files, lanes_in, stream_files};
+ghost use Rattle.log_reading.specs.Batch.{IsWholeBatch};
+ghost use Rattle.log_reading.specs.Core.{FeedsCore, IsFreshCore};
+ghost use Rattle.log_reading.specs.Log.{log_files, log_in};
 
-use crate::kept::Kept;
-use crate::source::Source;
-use crate::streams::read_stream;
-use crate::{KeptLog, NamedReadErr};
-use event_value::StreamUse;
-use input_book::{Inputs, Stream};
+use crate::NamedReadErr;
+use crate::ended::ended_inputs;
+use crate::lanes::feed_lanes;
+use checkpoint_form::Batch;
+use event_value::{Plan, Seq};
+use input_book::Inputs;
+use job_core::Core;
 use outside::Files;
 use std::alloc::Global;
+use stream_joins::Versions;
+use tick_time::Moment;
 
-/// Reads the log of the streams that are used so, each partition counted as ended.
+/// The batch of a plan over the whole log of its streams, each partition counted as ended, with the
+/// snapshots of each reference that the plan names: a core is fed all that the files hold, and cut
+/// once.
 ///
 /// # Errors
 /// `Fault` with the name of a file only where the files' count of faults has risen in this call;
 /// `Memory`.
-pub fn read_log<F: Files>(
+pub fn read_batch<F: Files>(
     alloc: Global,
     files: &mut F,
+    plan: &Plan,
     inputs: &Inputs,
-    used: &[StreamUse],
-) -> Result<KeptLog, NamedReadErr>
+    versions: Seq<Versions>,
+) -> Result<Batch, NamedReadErr>
     requires { IsWellFormed inputs.now }
-    ensures rows { IfOk result (λ log. IfSome (F.known files.old) (λ known.
-        log.rows ≡ rows_of_streams inputs.now.policy used.now (log_in known inputs.now.streams used.now))) }
-    ensures in_order { IfOk result (λ log. AllInOrder log.rows) }
-    ensures drops { IfOk result (λ log. IfSome (F.known files.old) (λ known.
-        log.drops ≡ drops_of_streams inputs.now.policy used.now (log_in known inputs.now.streams used.now))) }
-    ensures asked { AsksUntil (log_files inputs.now.streams used.now) result
+    ensures batch { IfOk result (λ batch. IfSome (F.known files.old) (λ known.
+        IsWholeBatch (ready_plan plan.now inputs.now versions) inputs.now.policy
+        (log_in known inputs.now.streams plan.now.streams) batch)) }
+    ensures asked { AsksUntil (log_files inputs.now.streams plan.now.streams) result
         (F.known files.old) (F.known files.new) }
     ensures never_falls { F.faults files.old ≤ F.faults files.new }
     ensures cause { IsCaused result (F.faults files.old) (F.faults files.new) }
 {
-    let mut log = KeptLog::none(alloc);
-    for one in used {
-        let kept = read_used(alloc, files, inputs, one)?;
-        log = log.and(alloc, kept)?;
-    }
-    Ok(log)
+    let ended = ended_inputs(alloc, inputs)?;
+    let core = Core::fresh(alloc, plan, &ended, versions, Moment::zero())?;
+    let fed = feed_core(alloc, files, &ended, core)?;
+    let (rest, batch) = fed.cut(alloc, 1)?;
+    Ok(batch)
 }
 
-// What is kept and dropped of a stream that is used so; nothing where the document has no such stream.
-fn read_used<F: Files>(
+// The core behind all segments of its lanes.
+fn feed_core<F: Files>(
     alloc: Global,
     files: &mut F,
     inputs: &Inputs,
-    used: &StreamUse,
-) -> Result<Kept, NamedReadErr>
-    requires { IsWellFormed inputs.now }
-    ensures kept { IfOk result (λ kept. IfSome (F.known files.old) (λ known.
-        AreKeptOf inputs.now.policy used.now
-        (lanes_in known (slice_get inputs.now.streams used.now.stream)) kept)) }
-    ensures asked { AsksUntil (stream_files (slice_get inputs.now.streams used.now.stream)) result
+    core: Core,
+) -> Result<Core, NamedReadErr>
+    requires { IsFreshCore inputs.now core }
+    ensures fed { IfOk result (λ new. FeedsCore (F.known files.old) inputs.now core new) }
+    ensures asked { AsksUntil (log_files inputs.now.streams core.plan.streams) result
         (F.known files.old) (F.known files.new) }
     ensures never_falls { F.faults files.old ≤ F.faults files.new }
     ensures cause { IsCaused result (F.faults files.old) (F.faults files.new) }
 {
-    match stream_at(inputs, used.stream) {
-        None => Ok(Kept::none(alloc)),
-        Some(stream) => {
-            let policy = &inputs.policy;
-            read_stream(
-                alloc,
-                files,
-                &Source {
-                    policy,
-                    used,
-                    stream,
-                },
-            )
-        }
-    }
-}
-
-// The stream at a place of the document, if there is one.
-fn stream_at(inputs: &Inputs, place: u16) -> Option<&Stream>
-    ensures { option_map (λ stream. stream.now) result ≡ slice_get inputs.now.streams place }
-{
-    inputs.streams.items().get(place as usize)
+    let (rest, lanes) = core.take_lanes();
+    let fed = feed_lanes(alloc, files, inputs, lanes)?;
+    Ok(rest.put_lanes(fed))
 }

@@ -5,7 +5,8 @@ ghost use Rattle.std.specs.List.{flat_map, zip};
 ghost use Rattle.preview_text.specs.PreviewText.{preview_text, outputs_text, output_text, row_line};
 ghost use Rattle.preview_text.specs.PreviewText.{drops_text, dropped_line, stream_name};
 
-use event_value::{Dropped, Memory, Output, Seq, Stamped, Text, push_dropped, push_row};
+use checkpoint_form::Row;
+use event_value::{Dropped, Memory, Output, Seq, Text, push_dropped};
 use input_book::Stream;
 use std::alloc::Global;
 
@@ -16,7 +17,7 @@ use std::alloc::Global;
 pub fn print_preview(
     alloc: Global,
     outputs: &[Output],
-    rows: &[Seq<Stamped>],
+    rows: &[Seq<Row>],
     streams: &[Stream],
     drops: &[Dropped],
 ) -> Result<Text, Memory>
@@ -29,7 +30,7 @@ pub fn print_preview(
     Ok(text)
 }
 
-fn push_outputs(out: &mut Text, outputs: &[Output], rows: &[Seq<Stamped>]) -> Result<(), Memory>
+fn push_outputs(out: &mut Text, outputs: &[Output], rows: &[Seq<Row>]) -> Result<(), Memory>
     ensures { OnOk result (out.new ≡ out.old ++ outputs_text outputs.now rows.now) }
 {
     for (output, rows) in outputs.iter().zip(rows) {
@@ -38,20 +39,20 @@ fn push_outputs(out: &mut Text, outputs: &[Output], rows: &[Seq<Stamped>]) -> Re
     Ok(())
 }
 
-fn push_output(out: &mut Text, output: &Output, rows: &[Stamped]) -> Result<(), Memory>
+fn push_output(out: &mut Text, output: &Output, rows: &[Row]) -> Result<(), Memory>
     ensures { OnOk result (out.new ≡ out.old ++ output_text output.now rows.now) }
 {
     out.extend(b"output ")?;
     out.extend(output.name.items())?;
     out.push(b'\n')?;
-    push_rows(out, output.names.items(), rows)
+    push_rows(out, rows)
 }
 
-fn push_rows(out: &mut Text, names: &[Text], rows: &[Stamped]) -> Result<(), Memory>
-    ensures { OnOk result (out.new ≡ out.old ++ flat_map (row_line names.now) rows.now) }
+fn push_rows(out: &mut Text, rows: &[Row]) -> Result<(), Memory>
+    ensures { OnOk result (out.new ≡ out.old ++ flat_map row_line rows.now) }
 {
     for row in rows {
-        push_row(out, names, row.values.items())?;
+        out.extend(row.text.items())?;
         out.push(b'\n')?;
     }
     Ok(())

@@ -1,14 +1,16 @@
 use Rattle.std.proofs.Common.{◌≡◌, ◌++◌, ◌+◌, ◌∷◌, [], List, map, take, length, refl, ap, sym, subst, ◌∙◌, arith}
-use Rattle.std.proofs.lemmas.List.{map-append, take_all, take_more}
+use Rattle.std.proofs.lemmas.List.{length-map, map-append, take_all, take_more}
 use Rattle.event_value.specs.declared.plan.StreamUse.{StreamUse}
-use Rattle.job_core.specs.Fresh.{fresh_heard_of, fresh_lane, partitions_of}
-use Rattle.job_core.specs.Lanes.{AreOfStreams, LanesStand, name_of}
+use Rattle.job_core.specs.Fresh.{fresh_heard_of, fresh_lane, lane_counts, lane_kinds, partitions_of}
+use Rattle.job_core.specs.Lanes.{AreOfStreams, LanesStand, kind_of, name_of}
 use Rattle.job_core.specs.declared.lane.Lane.{Lane}
-use Rattle.job_core.proofs.FreshLemmas.{AreOfStreams-push, LanesStand-append, fresh_heard-push}
+use Rattle.job_core.proofs.FreshLemmas.{AreOfStreams-push, LanesStand-append, fresh_heard-push, lane_kinds-push, length-kinds_from}
 use Rattle.job_core.proofs.lanes.fresh_lanes.Goals as goal
 
 pub loop-used-init : goal.loop-used-init
 loop-used-init c = record {
+  counts_are = c.empty-counts.ensures;
+  kinds_are = ap (map kind_of) c.empty-lanes.ensures;
   of_streams = subst (λ counts. AreOfStreams [] counts (map name_of c.empty-lanes.result)) (sym c.empty-counts.ensures) (ap (map name_of) c.empty-lanes.ensures);
   stand = subst (λ lanes. LanesStand c.args.inputs.now.policy lanes [] 0) (sym c.empty-lanes.ensures) tt;
 }
@@ -25,6 +27,20 @@ loop-used-preserved c =
     let counts : c.push.new.self ≡ c.loop-used.counts ++ length more ∷ [] = c.in_ok-push.ensures.ok ∙ ap (λ (xs : List Lane). c.loop-used.counts ++ length xs ∷ []) c.items.ensures in
     let lanes : c.push_all.new.all ≡ c.loop-used.lanes ++ more = c.in_ok-push_all.ensures in
     record {
+      counts_are =
+          counts
+          ∙ ap (λ ns. ns ++ length more ∷ []) old.counts_are
+          ∙ ap (λ n. lane_counts inputs (take at uses) ++ n ∷ [])
+          (sym (length-map more kind_of) ∙ ap length c.in_ok-more.ensures.kinds ∙ length-kinds_from used 0 (partitions_of inputs used))
+          ∙ sym (map-append (λ (u : StreamUse). length (partitions_of inputs u)) (take at uses) (used ∷ []))
+          ∙ ap (lane_counts inputs) (sym next);
+      kinds_are =
+          ap (map kind_of) lanes
+          ∙ map-append kind_of c.loop-used.lanes more
+          ∙ ap (λ kinds. kinds ++ map kind_of more) old.kinds_are
+          ∙ ap (λ kinds. lane_kinds inputs (take at uses) ++ kinds) c.in_ok-more.ensures.kinds
+          ∙ sym (lane_kinds-push inputs (take at uses) used)
+          ∙ ap (lane_kinds inputs) (sym next);
       of_streams =
           subst (λ us. AreOfStreams us c.push.new.self (map name_of c.push_all.new.all)) (sym next)
           (subst (λ ns. AreOfStreams (take at uses ++ used ∷ []) ns (map name_of c.push_all.new.all)) (sym counts)
@@ -44,3 +60,9 @@ returns-clause-of c =
 pub returns-clause-stand : goal.returns-clause-stand
 returns-clause-stand c =
     subst (λ us. LanesStand c.args.inputs.now.policy c.loop-used.lanes (fresh_heard_of c.args.inputs.now us) 0) (take_all c.loop-used.used-index c.args.uses.now (omega arith)) c.loop-used.invariant.stand
+
+pub returns-clause-counts : goal.returns-clause-counts
+returns-clause-counts c = c.loop-used.invariant.counts_are ∙ ap (lane_counts c.args.inputs.now) (take_all c.loop-used.used-index c.args.uses.now (omega arith))
+
+pub returns-clause-kinds : goal.returns-clause-kinds
+returns-clause-kinds c = c.loop-used.invariant.kinds_are ∙ ap (lane_kinds c.args.inputs.now) (take_all c.loop-used.used-index c.args.uses.now (omega arith))

@@ -5,26 +5,22 @@ use Rattle.jobs_top.proofs.preview.preview.Goals as goal
 
 pub returns-clause-text : goal.returns-clause-text
 returns-clause-text g c =
-    preview_of-read _ _ c.args.accepted.now c.items.result.now c.items-2.result.now c.in_ok-versions.versions c.items-3.result.now c.in_ok-log.log _
-    c.items.ensures c.items-2.ensures c.items-3.ensures c.in_ok-versions.ensures.asked c.in_ok-versions.ensures.versions
-    c.in_ok-log.ensures.rows c.in_ok-log.ensures.drops c.in_ok-print_log.ensures
+    preview_of-read _ _ c.args.accepted.now c.items.result.now c.in_ok-versions.versions c.in_ok-batch.batch _
+    c.items.ensures c.in_ok-versions.ensures.asked c.in_ok-versions.ensures.versions c.in_ok-batch.ensures.batch c.in_ok-print_preview.ensures
 
-pub returns-in_err-log-clause-asked : goal.returns-in_err-log-clause-asked
-returns-in_err-log-clause-asked g c =
-    let p = err_from_is_err_and c.from_residual-in_err-log.result c.from_residual-in_err-log.ensures.1 in
+pub returns-in_err-batch-clause-asked : goal.returns-in_err-batch-clause-asked
+returns-in_err-batch-clause-asked g c =
+    let p = err_from_is_err_and c.from_residual-in_err-batch.result c.from_residual-in_err-batch.ensures.1 in
     rw (p.1, p.2)
-    (AsksOnErr-behind _ c.args.accepted.now c.items.result.now c.items-2.result.now _ _ _
-    c.items.ensures c.items-2.ensures c.in_ok-versions.ensures.asked c.in_err-log.ensures.asked)
+    (AsksOnErr-behind _ c.args.accepted.now c.items.result.now _ _ _ c.items.ensures c.in_ok-versions.ensures.asked c.in_err-batch.ensures.asked)
 
-pub returns-in_err-print_log-clause-asked : goal.returns-in_err-print_log-clause-asked
-returns-in_err-print_log-clause-asked g c =
-    let p = err_from_is_err_and c.from_residual-in_err-print_log.result c.from_residual-in_err-print_log.ensures.1 in
+pub returns-in_err-print_preview-clause-asked : goal.returns-in_err-print_preview-clause-asked
+returns-in_err-print_preview-clause-asked g c =
+    let p = err_from_is_err_and c.from_residual-in_err-print_preview.result c.from_residual-in_err-print_preview.ensures.1 in
     rw (p.1, p.2)
     (AsksPrefixOf-all _ _ _
-    (Asks-preview c.args.accepted.now c.items.result.now c.items-2.result.now _ _ _
-    c.items.ensures c.items-2.ensures c.in_ok-versions.ensures.asked c.in_ok-log.ensures.asked))
+    (Asks-preview c.args.accepted.now c.items.result.now _ _ _ c.items.ensures c.in_ok-versions.ensures.asked c.in_ok-batch.ensures.asked))
 
 pub returns-clause-asked : goal.returns-clause-asked
 returns-clause-asked g c =
-    Asks-preview c.args.accepted.now c.items.result.now c.items-2.result.now _ _ _
-    c.items.ensures c.items-2.ensures c.in_ok-versions.ensures.asked c.in_ok-log.ensures.asked
+    Asks-preview c.args.accepted.now c.items.result.now _ _ _ c.items.ensures c.in_ok-versions.ensures.asked c.in_ok-batch.ensures.asked

@@ -5,7 +5,7 @@ use Rattle.event_value.specs.declared.record.Stamped.{Stamped}
 use Rattle.input_book.specs.declared.inputs.SnapshotName.{SnapshotName}
 use Rattle.log_reading.specs.References.{files_of_snapshots, rows_of_file}
 use Rattle.log_reading.proofs.AskingLemmas.{AsksAllBut-next, AsksAllBut-start, AsksOnErr-from_all_but, AsksPrefixOf-from_all_but}
-use Rattle.log_reading.proofs.HearingLemmas.{take_at}
+use Rattle.log_reading.proofs.KnownLemmas.{take_at}
 use Rattle.log_reading.proofs.ReferenceLemmas.{AreOf, AreOf-next, AreOf-start}
 use Rattle.log_reading.proofs.references.read_snapshots.Goals as goal
 

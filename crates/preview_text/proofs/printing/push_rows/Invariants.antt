@@ -5,4 +5,4 @@ use Rattle.preview_text.proofs.printing.push_rows.Given as goal
 
 abbrev pub invariant-loop-row : goal.invariant-loop-row
 invariant-loop-row l =
-    l.out ++ flat_map (row_line l.names) (drop l.row-index l.rows) ≡ l.fn.out ++ flat_map (row_line l.names) l.rows
+    l.out ++ flat_map row_line (drop l.row-index l.rows) ≡ l.fn.out ++ flat_map row_line l.rows

@@ -1,4 +1,4 @@
-use Rattle.std.proofs.Common.{◌≡◌, ◌≤◌, ap, sym, subst, ◌∙◌, map, arith}
+use Rattle.std.proofs.Common.{◌≡◌, ◌≤◌, refl, ap, sym, subst, ◌∙◌, map, arith}
 use Rattle.query_meaning.specs.Lists.{AreNew, all_between}
 use Rattle.query_meaning.specs.Meaning.{outputs_over}
 use Rattle.query_meaning.specs.Pipeline.{Advances, IsAt}
@@ -8,9 +8,9 @@ use Rattle.job_core.specs.Core.{core_rows, core_watermark}
 use Rattle.job_core.specs.Gathered.{gathered, joined}
 use Rattle.job_core.specs.Heard.{cut_lane, log_of, place_of}
 use Rattle.job_core.specs.Lane.{own_watermark}
-use Rattle.job_core.specs.Lanes.{AreOfStreams, AreReleased, LanesStand, least, name_of}
+use Rattle.job_core.specs.Lanes.{AreOfStreams, AreReleased, LanesStand, kind_of, least, name_of}
 use Rattle.job_core.specs.declared.lane.Lane.{Lane}
-use Rattle.job_core.proofs.CoreLemmas.{drops-stand, names-many, names-released, own-marks, places-stand, rows-new, settled-least, stand-released, watermark-own}
+use Rattle.job_core.proofs.CoreLemmas.{drops-stand, each-released, kind-same, name-same, names-many, own-marks, places-stand, rows-new, settled-least, stand-released, watermark-own}
 use Rattle.job_core.proofs.StreamLemmas.{drops-since, each_lane, log-cut, mark_of, watermark-within}
 use Rattle.job_core.proofs.job.Core.cut.Goals as goal
 
@@ -56,7 +56,7 @@ returns-clause-cut c = λ heard w stands.
         upto_is = upto_is;
       },
       record {
-        are_of_streams = subst (AreOfStreams uses counts) (sym (names-released upto lanes c.in_ok-lanes.lanes c.in_ok-lanes.rows released)) stands.are_of_streams;
+        are_of_streams = subst (AreOfStreams uses counts) (sym (each-released name_of name-same upto lanes c.in_ok-lanes.lanes c.in_ok-lanes.rows released)) stands.are_of_streams;
         lanes_stand =
             subst (LanesStand policy c.in_ok-lanes.lanes (map cut_lane heard)) upto_is
             (stand-released policy lanes c.in_ok-lanes.lanes heard w upto c.in_ok-lanes.rows le within stands.lanes_stand released);
@@ -66,3 +66,12 @@ returns-clause-cut c = λ heard w stands.
         before_end = watermark-within policy uses (log_of counts heard);
       },
     )
+
+pub returns-clause-same : goal.returns-clause-same
+returns-clause-same c = record {
+  plan_is = refl;
+  policy_is = refl;
+  start_is = refl;
+  counts_are = refl;
+  lanes_are = each-released kind_of kind-same c.least_watermark-upto.result c.args.self.lanes c.in_ok-lanes.lanes c.in_ok-lanes.rows c.in_ok-lanes.ensures.released;
+}

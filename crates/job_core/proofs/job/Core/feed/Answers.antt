@@ -1,10 +1,10 @@
-use Rattle.std.proofs.Common.{◌≡◌, ◌<◌, ap, sym, subst, ◌∙◌, map, length}
+use Rattle.std.proofs.Common.{◌≡◌, ◌<◌, refl, ap, sym, subst, ◌∙◌, map, length}
 use Rattle.query_meaning.specs.Pipeline.{IsAt}
 use Rattle.job_core.specs.Core.{CoreStands}
 use Rattle.job_core.specs.Heard.{with_entries, with_lane}
 use Rattle.job_core.specs.Lane.{fed_entries}
-use Rattle.job_core.specs.Lanes.{AreOfStreams, LanesStand, name_of, replaced}
-use Rattle.job_core.proofs.CoreLemmas.{IsAt-agree, Some-is, fed-agree, names-replaced, stand-replaced}
+use Rattle.job_core.specs.Lanes.{AreOfStreams, LanesStand, kind_of, name_of, replaced}
+use Rattle.job_core.proofs.CoreLemmas.{IsAt-agree, Some-is, each-replaced, fed-agree, kind-same, name-same, stand-replaced}
 use Rattle.job_core.proofs.job.Core.feed.Goals as goal
 
 pub returns-clause-fed : goal.returns-clause-fed
@@ -20,7 +20,7 @@ returns-clause-fed c = λ lane heard w at stands.
     record {
       are_of_streams =
           subst (AreOfStreams core.plan.streams core.counts)
-          (sym (ap (map name_of) fed.1 ∙ names-replaced core.lanes place lane fed.0 at fed.3)) stands.are_of_streams;
+          (sym (ap (map name_of) fed.1 ∙ each-replaced name_of core.lanes place lane fed.0 at (name-same lane fed.0 fed.3))) stands.are_of_streams;
       lanes_stand =
           subst (λ l. LanesStand core.policy l (with_lane change place heard) w) (sym fed.1)
           (stand-replaced core.policy core.lanes heard w place lane fed.0 more at stands.before_end fed.2 stands.lanes_stand);
@@ -28,4 +28,17 @@ returns-clause-fed c = λ lane heard w at stands.
           (fed-agree core.policy core.plan.streams core.counts core.lanes heard w place lane more at in_segment stands.before_end stands.are_of_streams stands.lanes_stand)
           stands.pipeline_at;
       before_end = stands.before_end;
+    }
+
+pub returns-clause-same : goal.returns-clause-same
+returns-clause-same c =
+    let core = c.args.self in
+    let lane = c.requires.0 in
+    let fed = c.in_ok-lanes.ensures lane c.requires.1 in
+    record {
+      plan_is = refl;
+      policy_is = refl;
+      start_is = refl;
+      counts_are = refl;
+      lanes_are = ap (map kind_of) fed.1 ∙ each-replaced kind_of core.lanes c.args.lane lane fed.0 c.requires.1 (kind-same lane fed.0 fed.3);
     }

@@ -1,5 +1,5 @@
 use Rattle.std.proofs.Common.{[], ap, sym, subst, ◌∙◌, map, arith}
-use Rattle.job_core.specs.Fresh.{fresh_heard_of}
+use Rattle.job_core.specs.Fresh.{fresh_heard_of, lane_counts, lane_kinds}
 use Rattle.job_core.specs.Heard.{log_of}
 use Rattle.job_core.specs.Lanes.{AreOfStreams, LanesStand, name_of}
 use Rattle.query_meaning.specs.Streams.{rows_of_streams}
@@ -24,3 +24,9 @@ returns-clause-stands c =
           c.in_ok-pipeline.ensures streams (rows-order inputs.policy ready.streams (log_of counts (fresh_heard_of inputs plan.streams)));
       before_end = omega arith;
     }
+
+pub returns-clause-lanes : goal.returns-clause-lanes
+returns-clause-lanes c = c.in_ok-counts.ensures.kinds ∙ ap (lane_kinds c.args.inputs.now) c.items-2.ensures
+
+pub returns-clause-counts : goal.returns-clause-counts
+returns-clause-counts c = c.in_ok-counts.ensures.counts ∙ ap (lane_counts c.args.inputs.now) c.items-2.ensures
