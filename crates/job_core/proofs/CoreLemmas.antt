@@ -1,12 +1,10 @@
 -- A core that hears further entries, and one that is cut.
-use Rattle.std.proofs.Common.{◌≡◌, ◌≤◌, ◌<◌, ℕ, zero, suc, ◌+◌, Bool, true, false, cond, ◌&&◌, Option, Some, None, List, [], ◌∷◌, ◌++◌, map, length, min, refl, ap, sym, ◌∙◌, subst, append-nil, append_assoc, arith}
+use Rattle.std.proofs.Common.{◌≡◌, ◌≤◌, ◌<◌, ℕ, zero, suc, Bool, false, cond, ◌&&◌, Option, Some, None, List, [], ◌∷◌, ◌++◌, map, length, refl, ap, sym, ◌∙◌, subst, append-nil, append_assoc, arith}
 use Rattle.std.specs.Prelude.{nat_lt, nat_le, slice_get}
 use Rattle.std.specs.List.{insert, remove}
 use Rattle.event_value.specs.declared.plan.StreamUse.{StreamUse}
 use Rattle.event_value.specs.declared.policy.Policy.{Policy}
-use Rattle.event_value.specs.declared.record.Dropped.{Dropped}
 use Rattle.event_value.specs.declared.record.Event.{Event}
-use Rattle.event_value.specs.declared.record.Position.{Position}
 use Rattle.event_value.specs.declared.record.Stamped.{Stamped}
 use Rattle.row_order.proofs.StretchLemmas.{rows_below-rows_from, rows_from-rows_from}
 use Rattle.tick_time.specs.Moment.{end_ticks}
@@ -16,7 +14,7 @@ use Rattle.time_policy.specs.Verdicts.{watermark}
 use Rattle.arrival_log.specs.Kept.{events_below, lane_events, lane_watermark, policy_entries}
 use Rattle.arrival_log.specs.Log.{LaneEntry, position}
 use Rattle.arrival_log.proofs.SettledLemmas.{settled}
-use Rattle.query_meaning.specs.Lists.{AllInOrder, AreNew, all_below, all_between}
+use Rattle.query_meaning.specs.Lists.{AreNew, all_below, all_between}
 use Rattle.query_meaning.specs.Pipeline.{IsAt}
 use Rattle.query_meaning.specs.Streams.{judge_of, row_of, rows_of_streams, watermark_of_streams}
 use Rattle.query_meaning.proofs.PlanLemmas.{Agree, Agree-none}

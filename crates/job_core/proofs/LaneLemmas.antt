@@ -1,5 +1,5 @@
 -- A lane that hears one entry more.
-use Rattle.std.proofs.Common.{◌≡◌, ◌≤◌, ◌<◌, ℕ, ◌+◌, Bool, true, false, cond, ◌&&◌, List, [], ◌∷◌, ◌++◌, Option, Some, None, map, take, drop, length, refl, ap, sym, ◌∙◌, subst, append_assoc, append-nil, arith}
+use Rattle.std.proofs.Common.{◌≡◌, ◌≤◌, ◌<◌, ℕ, ◌+◌, Bool, true, false, cond, List, [], ◌∷◌, ◌++◌, Option, Some, None, map, take, drop, length, refl, ap, sym, ◌∙◌, subst, append_assoc, append-nil, arith}
 use Rattle.std.specs.Prelude.{◌==◌}
 use Rattle.std.proofs.lemmas.Bool.{and_right, ne_eqb}
 use Rattle.std.proofs.lemmas.List.{drop-append-le, drop-map, length-append, length-drop, length-map, take-append-le, take-map, take_all}
@@ -21,7 +21,7 @@ use Rattle.time_policy.specs.Verdicts.{verdict, watermark}
 use Rattle.time_policy.specs.declared.rules.Rules.{Rules}
 use Rattle.time_policy.specs.declared.verdict.Verdict.{Verdict}
 use Rattle.time_policy.specs.declared.verdict.Verdict.TheVariants.{Kept, Dropped}
-use Rattle.arrival_log.specs.Kept.{Judge, drops_behind, entry_drop, entry_event, kept_record, lane_events, lane_watermark, policy_entries, policy_entry, verdict_behind}
+use Rattle.arrival_log.specs.Kept.{Judge, entry_drop, entry_event, kept_record, lane_events, lane_watermark, policy_entries, policy_entry, verdict_behind}
 use Rattle.arrival_log.specs.Lane.{IsBehindItem}
 use Rattle.arrival_log.specs.Log.{LaneEntry, Record, Broken, End, item_entry, origin, position, place_behind}
 use Rattle.arrival_log.proofs.EntryLemmas.{place_after-push, policy_entries-push, events_behind-push, drops_behind-push}

@@ -1,10 +1,10 @@
 -- Feeds and cuts in any order.
-use Rattle.std.proofs.Common.{◌≡◌, ◌≤◌, ℕ, zero, suc, Bool, true, false, cond, List, [], ◌∷◌, ◌++◌, map, min, Some, refl, ap, sym, ◌∙◌, subst, append_assoc, arith}
+use Rattle.std.proofs.Common.{◌≡◌, ◌≤◌, ℕ, zero, suc, Bool, false, List, [], ◌∷◌, ◌++◌, map, Some, refl, ap, sym, ◌∙◌, subst, append_assoc, arith}
 use Rattle.std.specs.Prelude.{slice_get}
 use Rattle.event_value.specs.declared.policy.Policy.{Policy}
 use Rattle.event_value.specs.declared.record.Stamped.{Stamped}
 use Rattle.row_order.proofs.StretchLemmas.{rows_below-append-rows_between, rows_below-rows_below}
-use Rattle.stream_op.specs.Rows.{AreInOrder, below, between, time_of}
+use Rattle.stream_op.specs.Rows.{below, time_of}
 use Rattle.tick_time.specs.Moment.{end_ticks}
 use Rattle.arrival_log.specs.Log.{LaneEntry}
 use Rattle.query_meaning.specs.Lists.{AllInOrder, all_below, all_between}
@@ -12,11 +12,11 @@ use Rattle.query_meaning.specs.Meaning.{rows_of_outputs}
 use Rattle.query_meaning.specs.declared.ready.ReadyPlan.{ReadyPlan}
 use Rattle.query_meaning.specs.Streams.{rows_of_streams, watermark_of_streams}
 use Rattle.query_meaning.proofs.PlanLemmas.{outputs_over-same, plan-laws}
-use Rattle.job_core.specs.Heard.{LaneHeard, cut_lane, entries, heard_lane, log_of, with_lane}
+use Rattle.job_core.specs.Heard.{LaneHeard, cut_lane, entries, log_of, with_lane}
 use Rattle.job_core.specs.Lane.{open_watermark}
 use Rattle.job_core.specs.Lanes.{AreAsMany, AreOfStreams, LaneName, least}
 use Rattle.job_core.specs.Schedule.{AnySchedule, AreOpenSteps, CoreStep, Cut, Feed, IsOpenStep, behind_each, fed_lane, final_below, given_after, heard_after, heard_after_step, meaning, upto_after}
-use Rattle.job_core.proofs.CoreLemmas.{Some-is, many-with_lane, picked-fed, rows-agree}
+use Rattle.job_core.proofs.CoreLemmas.{many-with_lane, picked-fed, rows-agree}
 use Rattle.job_core.proofs.LaneLemmas.{fed-settled, open-settled, open_watermark-more}
 use Rattle.job_core.proofs.StreamLemmas.{each_lane, least-within, log-cut, mark_of, rows-order, watermark-least}
 

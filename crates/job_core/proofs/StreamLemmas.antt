@@ -1,6 +1,5 @@
 -- What the streams of a core have at some times, by what each lane has there.
-use Rattle.std.proofs.Common.{◌≡◌, ◌≤◌, ◌<◌, ℕ, zero, suc, ◌+◌, Bool, ◌&&◌, List, [], ◌∷◌, ◌++◌, filter, map, take, drop, length, min, refl, ap, sym, ◌∙◌, subst, append-nil, append_assoc, arith}
-use Rattle.std.specs.Prelude.{nat_lt, nat_le}
+use Rattle.std.proofs.Common.{◌≡◌, ◌≤◌, ℕ, zero, suc, ◌+◌, Bool, List, [], ◌∷◌, ◌++◌, filter, map, take, drop, min, refl, ap, sym, ◌∙◌, append-nil, append_assoc, arith}
 use Rattle.std.proofs.lemmas.List.{drop-map, map-append, take-append-drop, take-map}
 use Rattle.std.proofs.lemmas.List.Elements.{filter-append}
 use Rattle.event_value.specs.declared.plan.StreamUse.{StreamUse}
@@ -12,7 +11,7 @@ use Rattle.row_order.specs.InOrder.{in_order}
 use Rattle.row_order.proofs.InOrderLemmas.{IsInOrder-in_order, filter-in_order, map-in_order}
 use Rattle.row_order.proofs.ListLemmas.{filter-map}
 use Rattle.row_order.proofs.StretchLemmas.{IsInOrder-map}
-use Rattle.stream_op.specs.Rows.{AreInOrder, time_of}
+use Rattle.stream_op.specs.Rows.{time_of}
 use Rattle.stream_op.specs.Timewise.{at_times}
 use Rattle.tick_time.specs.Moment.{end_ticks}
 use Rattle.arrival_log.specs.Kept.{HeardLane, Judge, drops_behind, lane_events, lane_watermark, lanes_events, least_watermark, stream_events}

@@ -1,11 +1,11 @@
 -- What a core has heard: the entries of each lane, those before the last cut and those since.
-use Rattle.std.specs.Prelude.{ℕ, zero, suc, Bool, ◌&&◌, ◌==◌, List, [], ◌∷◌, ◌++◌, length, map, take, drop}
+use Rattle.std.specs.Prelude.{ℕ, zero, suc, Bool, ◌&&◌, ◌==◌, List, [], ◌∷◌, ◌++◌, map, take, drop}
 use Rattle.event_value.specs.declared.record.Event.{Event}
 use Rattle.event_value.specs.declared.record.Item.{Item}
 use Rattle.event_value.specs.declared.record.Position.{Position}
 use Rattle.row_order.specs.Stretches.{rows_from}
 use Rattle.arrival_log.specs.Kept.{HeardLane}
-use Rattle.arrival_log.specs.Log.{LaneEntry, LaneSegment, position, segment_entries}
+use Rattle.arrival_log.specs.Log.{LaneEntry, position, segment_entries}
 use Rattle.query_meaning.specs.Streams.{Log}
 
 -- the events at w or later

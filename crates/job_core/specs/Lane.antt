@@ -2,7 +2,6 @@
 use Rattle.std.specs.Prelude.{◌≡◌, ◌≤◌, ◌<◌, ◌+◌, ◌^◌, ℕ, List, [], ◌∷◌, ◌++◌, length, map, get_or, if◌then◌else◌}
 use Rattle.event_value.specs.declared.plan.StreamUse.{StreamUse}
 use Rattle.event_value.specs.declared.policy.Policy.{Policy}
-use Rattle.event_value.specs.declared.record.Event.{Event}
 use Rattle.event_value.specs.declared.record.Item.{Item}
 use Rattle.event_value.specs.declared.record.Stamped.{Stamped}
 use Rattle.tick_time.specs.Moment.{end_ticks}
@@ -11,7 +10,7 @@ use Rattle.time_policy.specs.Verdicts.{watermark}
 use Rattle.arrival_log.specs.Kept.{drops_behind, events_below, lane_events, lane_watermark, policy_entries}
 use Rattle.arrival_log.specs.Log.{LaneEntry, position}
 use Rattle.query_meaning.specs.Streams.{judge_of, row_of}
-use Rattle.job_core.specs.Heard.{LaneHeard, entries, events_from, heard_lane, is_closed, next_entries, with_entries}
+use Rattle.job_core.specs.Heard.{LaneHeard, events_from, heard_lane, is_closed, next_entries, with_entries}
 use Rattle.job_core.specs.declared.lane.Lane.{Lane}
 
 -- The lane of this partition of a stream has heard these entries, those before the last cut and those since: it has

@@ -4,10 +4,12 @@ use Rattle.std.proofs.lemmas.List.{append-nil}
 use Rattle.std.specs.Option.{IfSome}
 use Rattle.checkpoint_form.specs.declared.batch.Batch.{Batch}
 use Rattle.checkpoint_form.specs.declared.batch.Row.{Row}
+use Rattle.event_value.specs.declared.plan.Output.{Output}
 use Rattle.event_value.specs.declared.record.Dropped.{Dropped}
 use Rattle.input_book.proofs.WellFormedLemmas.{accepted-well_formed}
 use Rattle.input_book.specs.Laws.{IsWellFormed}
 use Rattle.input_book.specs.declared.inputs.Inputs.{Inputs}
+use Rattle.input_book.specs.declared.inputs.Stream.{Stream}
 use Rattle.job_core.specs.Batches.{printed_outputs}
 use Rattle.log_reading.proofs.AskingLemmas.{Asks-append, Asks-none, AsksOnErr-among, AsksPrefixOf-all}
 use Rattle.log_reading.proofs.KnownLemmas.{IfSome-before, both}
@@ -47,6 +49,14 @@ batch-text accepted snapshots log batch text whole is =
     is
     ∙ ap (λ (rows : List (List Row)). preview_text accepted.plan.outputs rows accepted.inputs.streams batch.drops) whole.outputs_are
     ∙ ap (λ (ds : List Dropped). preview_text accepted.plan.outputs (printed_outputs 0 accepted.plan.outputs (rows_over accepted snapshots log)) accepted.inputs.streams ds) whole.drops_are
+
+pub preview_text-same : (outputs others : List Output) (rows lines : List (List Row)) (streams sources : List Stream) (drops records : List Dropped)
+    → outputs ≡ others → rows ≡ lines → streams ≡ sources → drops ≡ records → preview_text outputs rows streams drops ≡ preview_text others lines sources records
+preview_text-same outputs others rows lines streams sources drops records o r s d =
+    ap (λ (os : List Output). preview_text os rows streams drops) o
+    ∙ ap (λ (rs : List (List Row)). preview_text others rs streams drops) r
+    ∙ ap (λ (ss : List Stream). preview_text others lines ss drops) s
+    ∙ ap (λ (ds : List Dropped). preview_text others lines sources ds) d
 
 -- the text over the snapshots and the log that were read is that over those that the files hold
 pub preview_of-read : (old middle : Option KnownFiles) (accepted : Accepted) (numbers : List ℕ) (snapshots : List Snapshots) (batch : Batch) (text : List ℕ)

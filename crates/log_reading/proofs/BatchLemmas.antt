@@ -1,8 +1,7 @@
 -- The batch of ended inputs that were read whole.
-use Rattle.std.proofs.Common.{◌≡◌, ℕ, zero, suc, ◌+◌, ◌≤◌, Bool, true, false, cond, ◌&&◌, min, List, [], ◌∷◌, ◌++◌, length, map, take, drop, Option, Some, None, refl, ap, sym, subst, ◌∙◌, arith}
-use Rattle.std.specs.Prelude.{slice_get, ◌==◌, ◌≢◌}
+use Rattle.std.proofs.Common.{◌≡◌, ℕ, zero, suc, ◌+◌, Bool, true, min, List, [], ◌∷◌, ◌++◌, length, map, take, drop, Option, Some, None, refl, ap, sym, subst, ◌∙◌, arith}
+use Rattle.std.specs.Prelude.{slice_get, ◌≢◌}
 use Rattle.std.specs.List.{All, AllPairs, flat_map, sum_by}
-use Rattle.std.specs.List.Sorted.{IsNonDecreasingBy}
 use Rattle.std.specs.Option.{IfSome, option_map}
 use Rattle.std.proofs.lemmas.Bool.{eq-eqb}
 use Rattle.std.proofs.lemmas.List.{drop-map, length-map, map-append, take-map}
@@ -24,15 +23,14 @@ use Rattle.input_book.specs.Laws.{IsPartition, IsStream, IsWellFormed}
 use Rattle.input_book.specs.declared.inputs.Inputs.{Inputs}
 use Rattle.input_book.specs.declared.inputs.Partition.{Partition}
 use Rattle.input_book.specs.declared.inputs.Reference.{Reference}
-use Rattle.input_book.specs.declared.inputs.SegmentName.{SegmentName}
 use Rattle.input_book.specs.declared.inputs.Stream.{Stream}
 use Rattle.job_core.specs.Batches.{drops_since, drops_since_of, printed_outputs}
 use Rattle.job_core.specs.Core.{CoreStands, IsBatch, IsCut, IsSameCore, core_rows, core_watermark}
-use Rattle.job_core.specs.Fresh.{lane_counts, partitions_in, partitions_of}
+use Rattle.job_core.specs.Fresh.{lane_counts, partitions_in}
 use Rattle.job_core.specs.Heard.{LaneHeard, entries, heard_lane, is_closed, log_of}
 use Rattle.job_core.specs.declared.job.Core.{Core}
 use Rattle.outside.specs.KnownFiles.{KnownFiles}
-use Rattle.query_meaning.specs.Lists.{all_below, all_between}
+use Rattle.query_meaning.specs.Lists.{all_between}
 use Rattle.query_meaning.specs.Meaning.{outputs_over}
 use Rattle.query_meaning.specs.Ready.{columns_of_stream, ready_over, ready_plan, reference_width, stream_width}
 use Rattle.query_meaning.specs.Streams.{Log, drops_of_lanes, drops_of_streams, judge_of, rows_of_streams, watermark_of_streams}

@@ -1,12 +1,11 @@
 -- A core that is fed the log of its streams.
-use Rattle.std.proofs.Common.{◌≡◌, ℕ, List, map, Option, Some, None, refl, ap, sym, subst, ◌∙◌}
+use Rattle.std.proofs.Common.{◌≡◌, List, map, Option, Some, None, refl, ap, sym, subst, ◌∙◌}
 use Rattle.std.specs.List.{All, flat_map}
 use Rattle.std.specs.Option.{IfSome}
 use Rattle.event_value.specs.declared.plan.Plan.{Plan}
 use Rattle.event_value.specs.declared.policy.Policy.{Policy}
 use Rattle.input_book.specs.declared.inputs.Inputs.{Inputs}
-use Rattle.job_core.specs.Apart.{HearFurther}
-use Rattle.job_core.specs.Core.{CoreStands, IsSameCore, with_lanes}
+use Rattle.job_core.specs.Core.{CoreStands, with_lanes}
 use Rattle.job_core.specs.Fresh.{fresh_heard, fresh_heard_of, lane_kinds}
 use Rattle.job_core.specs.Heard.{LaneHeard}
 use Rattle.job_core.specs.Lanes.{LanesStand, kind_of}

@@ -1,5 +1,5 @@
 -- A lane that is fed the segments that its files hold.
-use Rattle.std.proofs.Common.{◌≡◌, ℕ, zero, suc, ◌+◌, ◌<◌, ◌≤◌, Bool, List, [], ◌∷◌, ◌++◌, length, map, take, drop, get_or, Option, Some, None, refl, ap, sym, subst, ◌∙◌, arith}
+use Rattle.std.proofs.Common.{◌≡◌, ℕ, zero, suc, ◌+◌, ◌<◌, Bool, List, [], ◌∷◌, ◌++◌, length, map, take, drop, get_or, Option, Some, None, refl, ap, sym, subst, ◌∙◌, arith}
 use Rattle.std.proofs.lemmas.List.{flat_map_more, length-append, length-map, length_push, map_push, take_all}
 use Rattle.std.specs.Option.{IfSome}
 use Rattle.arrival_log.specs.Log.{LaneEntry, LaneSegment, Record, Broken, End, item_entry, segment_entries, lane_entries, place_after, position}
@@ -16,7 +16,6 @@ use Rattle.job_core.specs.Lane.{IsFed, IsSameLane, LaneStands, fed_entries, thro
 use Rattle.job_core.specs.declared.lane.Lane.{Lane}
 use Rattle.job_core.proofs.LaneLemmas.{IsSameLane-both, IsSameLane-self}
 use Rattle.outside.specs.KnownFiles.{KnownFiles}
-use Rattle.tick_time.specs.Moment.{end_ticks}
 use Rattle.log_reading.specs.Asking.{Asks}
 use Rattle.log_reading.specs.Feeding.{BeginsWith, FeedsFile, FeedsFiles, FeedsLane, HasRead, IsAtSegment}
 use Rattle.log_reading.specs.Log.{items_of_file, segment_in}

@@ -1,22 +1,21 @@
 -- The lanes of a core by the partitions of the streams that its plan uses.
-use Rattle.std.proofs.Common.{◌≡◌, ℕ, zero, suc, ◌+◌, ◌<◌, Bool, true, false, ◌&&◌, List, [], ◌∷◌, ◌++◌, length, map, take, drop, get_or, Option, Some, None, refl, ap, sym, subst, ◌∙◌, append_assoc, arith}
-use Rattle.std.specs.Prelude.{slice_get, ◌==◌}
+use Rattle.std.proofs.Common.{◌≡◌, ℕ, ◌+◌, ◌<◌, Bool, true, false, List, [], ◌∷◌, ◌++◌, length, map, take, drop, get_or, Option, Some, None, refl, ap, sym, subst, ◌∙◌, append_assoc, arith}
+use Rattle.std.specs.Prelude.{slice_get}
 use Rattle.std.specs.List.{All, flat_map}
-use Rattle.std.specs.Option.{IfSome, option_map}
-use Rattle.std.proofs.lemmas.List.{length-append, length-map, map-append, take-append-drop}
+use Rattle.std.specs.Option.{option_map}
+use Rattle.std.proofs.lemmas.List.{length-append, map-append, take-append-drop}
 use Rattle.std.proofs.lemmas.List.Concat.{flat_map-cons}
 use Rattle.std.proofs.lemmas.List.Elements.{All-cons, All-nil}
 use Rattle.std.proofs.lemmas.Grind.{flat_map-append}
 use Rattle.std.proofs.lemmas.List.Folds.{flat_map-map}
 use Rattle.arrival_log.specs.Log.{lane_entries, position}
 use Rattle.event_value.specs.declared.plan.StreamUse.{StreamUse}
-use Rattle.event_value.specs.declared.policy.Policy.{Policy}
 use Rattle.input_book.specs.declared.inputs.Inputs.{Inputs}
 use Rattle.input_book.specs.declared.inputs.Partition.{Partition}
 use Rattle.input_book.specs.declared.inputs.SegmentName.{SegmentName}
 use Rattle.input_book.specs.declared.inputs.Stream.{Stream}
-use Rattle.job_core.specs.Apart.{HearFurther, HearsFurther}
-use Rattle.job_core.specs.Fresh.{fresh_heard_of, fresh_lane, kinds_from, lane_kind, lane_kinds, partitions_in, partitions_of, throughs_of}
+use Rattle.job_core.specs.Apart.{HearFurther}
+use Rattle.job_core.specs.Fresh.{fresh_heard_of, fresh_lane, kinds_from, lane_kind, lane_kinds, partitions_in}
 use Rattle.job_core.specs.Heard.{LaneHeard, is_closed}
 use Rattle.job_core.specs.Lane.{LaneStands}
 use Rattle.job_core.specs.Lanes.{LaneKind, LanesStand, kind_of}
@@ -27,7 +26,7 @@ use Rattle.outside.specs.KnownFiles.{KnownFiles}
 use Rattle.log_reading.specs.Asking.{Asks}
 use Rattle.log_reading.specs.Feeding.{FeedsLane, FeedsLanes}
 use Rattle.log_reading.specs.Log.{log_files, partition_files, segment_in, stream_files}
-use Rattle.log_reading.specs.Places.{IsFresh, IsFreshAt, LanePlace, files_at, has_heard, heard_at, heard_in, lane_files, place_at, place_in, place_of, places, places_in}
+use Rattle.log_reading.specs.Places.{IsFresh, IsFreshAt, LanePlace, files_at, heard_at, lane_files, place_at, place_in, places, places_in}
 use Rattle.log_reading.proofs.AskingLemmas.{flat_map-at}
 use Rattle.log_reading.proofs.KnownLemmas.{IfSome-before}
 

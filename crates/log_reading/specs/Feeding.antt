@@ -1,5 +1,5 @@
 -- A lane that is fed what its files hold, for private clauses.
-use Rattle.std.specs.Prelude.{◌≡◌, ◌<◌, ℕ, List, [], ◌∷◌, length, map, Option, IfSome}
+use Rattle.std.specs.Prelude.{◌≡◌, ◌<◌, List, [], ◌∷◌, length, map, Option, IfSome}
 use Rattle.arrival_log.specs.Log.{LaneSegment, lane_entries, segment_entries}
 use Rattle.event_value.specs.declared.record.Item.{Item}
 use Rattle.event_value.specs.declared.policy.Policy.{Policy}

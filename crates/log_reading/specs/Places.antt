@@ -1,5 +1,5 @@
 -- Which partition of which stream each lane is, and what it has heard once its files are read, for private clauses.
-use Rattle.std.specs.Prelude.{◌≡◌, ℕ, Bool, List, [], ◌∷◌, length, map, slice_get, Option, Some, None}
+use Rattle.std.specs.Prelude.{◌≡◌, ℕ, Bool, List, [], length, map, slice_get, Option, Some, None}
 use Rattle.std.specs.List.{flat_map}
 use Rattle.std.specs.Option.{option_map}
 use Rattle.arrival_log.specs.Log.{LaneEntry, lane_entries, position}

@@ -1,4 +1,4 @@
-use Rattle.std.proofs.Common.{◌++◌, ◌+◌, take, drop, ap, sym, ◌∙◌}
+use Rattle.std.proofs.Common.{◌++◌, take, drop, ap, sym, ◌∙◌}
 use Rattle.job_core.specs.Gathered.{first_list, joined}
 use Rattle.job_core.proofs.BatchLemmas.{drop-one, joined-more}
 use Rattle.job_core.proofs.batches.take_rows.Goals as goal

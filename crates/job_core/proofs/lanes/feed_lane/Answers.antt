@@ -3,7 +3,6 @@ use Rattle.std.specs.List.{insert, remove}
 use Rattle.std.specs.Prelude.{slice_get}
 use Rattle.std.proofs.lemmas.Option.{get_or_from_slice_get}
 use Rattle.job_core.specs.Lane.{IsFed, IsSameLane, fed_entries}
-use Rattle.job_core.specs.Lanes.{replaced}
 use Rattle.job_core.proofs.CoreLemmas.{insert-remove}
 use Rattle.job_core.proofs.lanes.feed_lane.Goals as goal
 

@@ -1,11 +1,10 @@
-use Rattle.std.proofs.Common.{◌≡◌, ◌≤◌, ◌++◌, ◌∷◌, [], ℕ, Bool, List, length, take, refl, ap, sym, ◌∙◌, arith}
+use Rattle.std.proofs.Common.{◌≡◌, ◌≤◌, ◌++◌, ◌∷◌, [], ℕ, Bool, List, length, take, ap, sym, ◌∙◌, arith}
 use Rattle.std.proofs.lemmas.List.{length-map, map-append, take_all, take_more}
 use Rattle.event_value.specs.declared.plan.StreamUse.{StreamUse}
 use Rattle.input_book.specs.declared.inputs.SegmentName.{SegmentName}
-use Rattle.arrival_log.specs.Log.{position}
 use Rattle.job_core.specs.Fresh.{throughs_of}
 use Rattle.job_core.specs.Heard.{is_closed}
-use Rattle.job_core.specs.Lanes.{LaneKind, kind_of}
+use Rattle.job_core.specs.Lanes.{LaneKind}
 use Rattle.job_core.proofs.LaneLemmas.{own}
 use Rattle.job_core.proofs.lanes.start_lane.Goals as goal
 

@@ -1,12 +1,15 @@
+use Rattle.std.proofs.Common.{◌∙◌}
 use Rattle.std.proofs.lemmas.Result.{err_from_is_err_and}
 use Rattle.log_reading.proofs.AskingLemmas.{AsksPrefixOf-all}
-use Rattle.jobs_top.proofs.TextLemmas.{Asks-preview, AsksOnErr-behind, AsksOnErr-references, preview_of-read}
+use Rattle.jobs_top.proofs.TextLemmas.{Asks-preview, AsksOnErr-behind, AsksOnErr-references, preview_of-read, preview_text-same}
 use Rattle.jobs_top.proofs.preview.preview.Goals as goal
 
 pub returns-clause-text : goal.returns-clause-text
 returns-clause-text g c =
     preview_of-read _ _ c.args.accepted.now c.items.result.now c.in_ok-versions.versions c.in_ok-batch.batch _
-    c.items.ensures c.in_ok-versions.ensures.asked c.in_ok-versions.ensures.versions c.in_ok-batch.ensures.batch c.in_ok-print_preview.ensures
+    c.items.ensures c.in_ok-versions.ensures.asked c.in_ok-versions.ensures.versions c.in_ok-batch.ensures.batch
+    (c.in_ok-print_preview.ensures
+    ∙ preview_text-same _ _ _ _ _ _ _ _ c.items-outputs.ensures c.items-rows.ensures c.items-streams.ensures c.items-drops.ensures)
 
 pub returns-in_err-batch-clause-asked : goal.returns-in_err-batch-clause-asked
 returns-in_err-batch-clause-asked g c =

@@ -1,14 +1,14 @@
 use Rattle.std.proofs.Common.{◌≡◌, ◌≤◌, refl, ap, sym, subst, ◌∙◌, map, arith}
 use Rattle.query_meaning.specs.Lists.{AreNew, all_between}
 use Rattle.query_meaning.specs.Meaning.{outputs_over}
-use Rattle.query_meaning.specs.Pipeline.{Advances, IsAt}
+use Rattle.query_meaning.specs.Pipeline.{IsAt}
 use Rattle.query_meaning.specs.Streams.{rows_of_streams}
 use Rattle.job_core.specs.Batches.{printed_outputs}
 use Rattle.job_core.specs.Core.{core_rows, core_watermark}
-use Rattle.job_core.specs.Gathered.{gathered, joined}
-use Rattle.job_core.specs.Heard.{cut_lane, log_of, place_of}
+use Rattle.job_core.specs.Gathered.{gathered}
+use Rattle.job_core.specs.Heard.{cut_lane, log_of}
 use Rattle.job_core.specs.Lane.{own_watermark}
-use Rattle.job_core.specs.Lanes.{AreOfStreams, AreReleased, LanesStand, kind_of, least, name_of}
+use Rattle.job_core.specs.Lanes.{AreOfStreams, LanesStand, kind_of, least, name_of}
 use Rattle.job_core.specs.declared.lane.Lane.{Lane}
 use Rattle.job_core.proofs.CoreLemmas.{drops-stand, each-released, kind-same, name-same, names-many, own-marks, places-stand, rows-new, settled-least, stand-released, watermark-own}
 use Rattle.job_core.proofs.StreamLemmas.{drops-since, each_lane, log-cut, mark_of, watermark-within}

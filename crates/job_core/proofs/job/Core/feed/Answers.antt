@@ -1,9 +1,7 @@
-use Rattle.std.proofs.Common.{◌≡◌, ◌<◌, refl, ap, sym, subst, ◌∙◌, map, length}
-use Rattle.query_meaning.specs.Pipeline.{IsAt}
-use Rattle.job_core.specs.Core.{CoreStands}
+use Rattle.std.proofs.Common.{◌<◌, refl, ap, sym, subst, ◌∙◌, map, length}
 use Rattle.job_core.specs.Heard.{with_entries, with_lane}
 use Rattle.job_core.specs.Lane.{fed_entries}
-use Rattle.job_core.specs.Lanes.{AreOfStreams, LanesStand, kind_of, name_of, replaced}
+use Rattle.job_core.specs.Lanes.{AreOfStreams, LanesStand, kind_of, name_of}
 use Rattle.job_core.proofs.CoreLemmas.{IsAt-agree, Some-is, each-replaced, fed-agree, kind-same, name-same, stand-replaced}
 use Rattle.job_core.proofs.job.Core.feed.Goals as goal
 

@@ -1,4 +1,4 @@
-use Rattle.std.proofs.Common.{[], ap, sym, subst, ◌∙◌, map, arith}
+use Rattle.std.proofs.Common.{ap, sym, subst, ◌∙◌, map, arith}
 use Rattle.job_core.specs.Fresh.{fresh_heard_of, lane_counts, lane_kinds}
 use Rattle.job_core.specs.Heard.{log_of}
 use Rattle.job_core.specs.Lanes.{AreOfStreams, LanesStand, name_of}

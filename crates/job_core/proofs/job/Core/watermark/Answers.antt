@@ -1,4 +1,4 @@
-use Rattle.std.proofs.Common.{ap, sym, ◌∙◌, map}
+use Rattle.std.proofs.Common.{ap, ◌∙◌, map}
 use Rattle.job_core.specs.Lane.{own_watermark}
 use Rattle.job_core.specs.Lanes.{least}
 use Rattle.job_core.proofs.CoreLemmas.{watermark-own}

@@ -1,6 +1,6 @@
 use Rattle.std.proofs.Common.{◌≡◌, ◌++◌, ◌+◌, ◌∷◌, [], map, take, refl, ap, sym, subst, ◌∙◌, arith}
-use Rattle.std.proofs.lemmas.List.{map_more, take_all}
-use Rattle.arrival_log.specs.Log.{LaneEntry, item_entry}
+use Rattle.std.proofs.lemmas.List.{map_more}
+use Rattle.arrival_log.specs.Log.{item_entry}
 use Rattle.job_core.specs.Lane.{HearsAll}
 use Rattle.job_core.proofs.LaneLemmas.{HearsAll-none, HearsAll-push, IsSameLane-both, IsSameLane-self}
 use Rattle.job_core.proofs.lane.Lane.hear_items.Goals as goal

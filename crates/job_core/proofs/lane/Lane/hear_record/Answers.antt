@@ -1,4 +1,4 @@
-use Rattle.std.proofs.Common.{refl, ap, ◌∙◌}
+use Rattle.std.proofs.Common.{refl, ◌∙◌}
 use Rattle.job_core.proofs.LaneLemmas.{record_heard}
 use Rattle.job_core.proofs.lane.Lane.hear_record.Goals as goal
 
