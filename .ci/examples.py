@@ -8,7 +8,7 @@ import re
 import sys
 
 TOP = pathlib.Path(__file__).resolve().parent.parent
-TESTS = (TOP / "crates/jobs_top/src/tests/examples.rt").read_text()
+TESTS = (TOP / "crates/top_rows/src/examples.rt").read_text()
 missing = []
 files = sorted(path for path in (TOP / "examples").rglob("*") if path.is_file())
 

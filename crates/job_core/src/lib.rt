@@ -13,8 +13,6 @@ mod lane;
 mod lanes;
 mod laws;
 mod lists;
-#[cfg(test)]
-mod tests;
 
 pub use job::{Core, Rest};
 pub use lane::{Lane, Released};

@@ -16,8 +16,6 @@ mod preview;
 mod refusal_lines;
 mod status;
 mod status_lines;
-#[cfg(test)]
-mod tests;
 mod texts;
 mod words;
 

@@ -5,7 +5,6 @@ pub mod Steps
 pub mod Meaning
 pub mod Lists
 pub mod Laws
-pub mod Hearing
 pub mod StepOp
 pub mod Pipeline
 -- the proofs of the steps' laws

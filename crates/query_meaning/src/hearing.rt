@@ -1,13 +1,9 @@
-//! How a lane of a stream that a plan uses hears its entries.
+//! What TIMESTAMP BY and OVER are over the values of a record.
 
-ghost use Rattle.std.specs.Prelude.{◌≡◌, ◌≤ℤ◌, pos, ◌+◌, ◌<◌, ◌^◌, IfOk};
-ghost use Rattle.arrival_log.specs.Lane.{IsBehindItem};
-ghost use Rattle.arrival_log.specs.Log.{origin};
-ghost use Rattle.query_meaning.specs.Hearing.{BeginsLane, HearsItem};
+ghost use Rattle.std.specs.Prelude.{◌≡◌, IfOk};
 ghost use Rattle.query_meaning.specs.Streams as spec;
 
-use arrival_log::Lane;
-use event_value::{Copies, Item, Memory, Policy, Seq, StreamUse, Value};
+use event_value::{Copies, Memory, Seq, StreamUse, Value};
 use expr_eval::eval;
 use std::alloc::Global;
 use tick_time::Moment;
@@ -60,49 +56,5 @@ fn column_at(values: &[Value], place: u16) -> Result<Value, Memory>
     match values.get(place as usize) {
         None => Ok(Value::Null),
         Some(value) => value.copy(),
-    }
-}
-
-/// The lane of this partition of a stream, before its first entry. It takes no memory.
-pub fn start_lane(alloc: Global, policy: &Policy, used: &StreamUse, partition: u16) -> Lane
-    requires late { pos 0 ≤ℤ policy.now.late }
-    requires disorder { pos 0 ≤ℤ policy.now.disorder }
-    ensures heard { BeginsLane policy.now used.now partition result }
-    ensures place { result.place ≡ origin }
-{
-    let over = used.over.items().len() > 0;
-    Lane::start(
-        alloc,
-        policy,
-        used.stamp.is_some(),
-        over,
-        used.stream,
-        partition,
-    )
-}
-
-/// The lane behind an item of a segment that ends at `through`.
-///
-/// # Errors
-/// `Memory` where there was none for the event or the dropped record.
-pub fn hear_item(
-    alloc: Global,
-    lane: Lane,
-    used: &StreamUse,
-    through: Moment,
-    item: &Item,
-) -> Result<Lane, Memory>
-    requires { lane.place.index + 1 < 2 ^ 32 }
-    ensures heard { IfOk result (λ next. HearsItem used.now through item.now lane next) }
-    ensures place { IfOk result (λ next. IsBehindItem lane.place next.place) }
-{
-    match item {
-        Item::Good { enqueued, values } => {
-            let stamp = stamp_of(alloc, used, values.items())?;
-            let key = substream_of(alloc, used, values.items())?;
-            let values = values.copy()?;
-            lane.hear_record(alloc, *enqueued, through, stamp, key.items(), values)
-        }
-        Item::Bad(rule) => lane.hear_broken(*rule),
     }
 }

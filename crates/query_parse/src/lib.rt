@@ -12,8 +12,6 @@ mod query;
 mod selects;
 mod sources;
 mod statements;
-#[cfg(test)]
-mod tests;
 
 pub use query::parse;
 pub use query_grammar::{each_text_has_an_answer, no_text_has_two_answers};

@@ -1,14 +1,12 @@
-//! Queries from their text to their canonical text and to their plan, as tests alone.
+//! Queries from their text to their plan, as tests alone.
 //! Each table has a line for each query, worked out by hand; docs/QUERY has the rules.
 //! What matters: the tables in plans.rt, flows.rt, joins.rt, kinds.rt, names.rt, groups.rt,
-//! limits.rt, unsupported.rt and canonical.rt.
-//! It gives no function: those that it calls are query_parse's, query_print's and query_type's.
+//! limits.rt and unsupported.rt.
+//! It gives no function: those that it calls are query_parse's and query_type's.
 #![tactic(auto)]
 
 #[cfg(test)]
 mod answers;
-#[cfg(test)]
-mod canonical;
 #[cfg(test)]
 mod flows;
 #[cfg(test)]

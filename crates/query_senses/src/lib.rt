@@ -26,8 +26,6 @@ mod reading;
 mod same;
 mod scope;
 mod sense;
-#[cfg(test)]
-mod tests;
 
 pub use columns::{Finding, finding_of};
 pub use conjunctions::read_and_without;

@@ -1,5 +1,0 @@
-use Rattle.input_book.proofs.WellFormedLemmas.{accepted-well_formed}
-use Rattle.job_core.proofs.tests.inputs.Goals as goal
-
-pub returns : goal.returns
-returns c = accepted-well_formed c.in_ok-inputs.inputs (_, c.in_ok-inputs.ensures.ok)

@@ -1,0 +1,19 @@
+//! Queries as texts: read, refused at their place, printed; and readings of small trees. Tests alone.
+//! Each table has a line for each query, worked out by hand; docs/QUERY has the rules.
+//! What matters: the tables in forms.rt, refusals.rt, limits.rt and canonical.rt; readings.rt has the
+//! trees.
+//! It gives no function: those that it calls are query_parse's, query_print's and query_senses'.
+#![tactic(auto)]
+
+#[cfg(test)]
+mod answers;
+#[cfg(test)]
+mod canonical;
+#[cfg(test)]
+mod forms;
+#[cfg(test)]
+mod limits;
+#[cfg(test)]
+mod readings;
+#[cfg(test)]
+mod refusals;
