@@ -51,7 +51,7 @@ pub fn words_of(alloc: Global, words: &[&str]) -> Result<Seq<Text>, Memory> {
 pub fn is_outcome(
     alloc: Global,
     words: &[Text],
-    pub files: &mut MemFiles,
+    files: &mut MemFiles,
     status: Status,
     written: &[u8],
 ) -> bool {
