@@ -71,10 +71,22 @@ fn gives(
     events: &[Event],
     wanted: &[&[Row]],
 ) -> Result<bool, Memory> {
+    let rows = stream(alloc, events)?;
+    gives_over(alloc, steps, places, rows, wanted)
+}
+
+/// Whether a plan over one stream of these rows, which are in order of time, has these outputs.
+fn gives_over(
+    alloc: Global,
+    steps: &[Spelt],
+    places: &[u16],
+    rows: Seq<Stamped>,
+    wanted: &[&[Row]],
+) -> Result<bool, Memory> {
     let plan = plan(alloc, steps, places)?;
     let pipeline = Pipeline::begin(alloc, &plan)?;
     let mut sources = Seq::empty(alloc);
-    sources.push(stream(alloc, events)?)?;
+    sources.push(rows)?;
     let (_, rows) = pipeline.advance(alloc, &plan, sources.items(), moment(99_999))?;
     Ok(are_outputs(rows.items(), wanted))
 }
@@ -209,5 +221,36 @@ fn steps_without_an_earlier_step_have_no_rows(rt: HostRuntime) -> Result<(), Fai
 fn a_plan_over_no_rows_has_none(rt: HostRuntime) -> Result<(), Fail> {
     let steps = [Spelt::Source(0), Spelt::Grid(0, 5, 5, 0, COUNT)];
     assert!(rt; gives(rt.alloc(), &steps, &[1], &[], &[&[]])?);
+    Ok(())
+}
+
+/// A reading of device 1 in each of the seconds 1 to 70,000.
+fn many_readings(alloc: Global) -> Result<Seq<Stamped>, Memory> {
+    let mut rows = Seq::empty(alloc);
+    for second in 0..70_000 {
+        let mut values = Seq::empty(alloc);
+        values.push(Value::Big(1))?;
+        let time = moment(second + 1);
+        rows.push(Stamped { time, values })?;
+    }
+    Ok(rows)
+}
+
+// The pieces of 32,768 rows end within a window.
+#[test]
+fn many_rows_are_taken_piece_by_piece(rt: HostRuntime) -> Result<(), Fail> {
+    let steps = [Spelt::Source(0), Spelt::Grid(0, 10_000, 10_000, 1, COUNT)];
+    let values = [Some(1), Some(10_000)];
+    let wanted: [Row; 7] = [
+        (10_000, &values),
+        (20_000, &values),
+        (30_000, &values),
+        (40_000, &values),
+        (50_000, &values),
+        (60_000, &values),
+        (70_000, &values),
+    ];
+    let rows = many_readings(rt.alloc())?;
+    assert!(rt; gives_over(rt.alloc(), &steps, &[1], rows, &[&wanted])?);
     Ok(())
 }

@@ -14,11 +14,11 @@ use Rattle.time_policy.specs.Verdicts.{watermark}
 use Rattle.arrival_log.specs.Kept.{events_below, lane_events, lane_watermark, policy_entries}
 use Rattle.arrival_log.specs.Log.{LaneEntry, position}
 use Rattle.arrival_log.proofs.SettledLemmas.{settled}
-use Rattle.query_meaning.specs.Lists.{AreNew, all_below, all_between}
+use Rattle.query_meaning.specs.Lists.{AreNew, all_between}
 use Rattle.query_meaning.specs.Pipeline.{IsAt}
 use Rattle.query_meaning.specs.Streams.{judge_of, row_of, rows_of_streams, watermark_of_streams}
 use Rattle.query_meaning.proofs.PlanLemmas.{Agree, Agree-none}
-use Rattle.query_meaning.proofs.PipelineLemmas.{AreGiven-same, below-between, done-in_order}
+use Rattle.query_meaning.proofs.PipelineLemmas.{AreGiven-same, all_between-twice, done-in_order}
 use Rattle.query_meaning.specs.declared.pipeline.Pipeline.{Pipeline}
 use Rattle.query_meaning.specs.declared.ready.ReadyPlan.{ReadyPlan}
 use Rattle.job_core.specs.Gathered.{gathered, joined}
@@ -137,6 +137,7 @@ rows-agree policy uses counts names heard others w of many others_many same = re
 
 pub IsAt-agree : (pipeline : Pipeline) (plan : ReadyPlan) (streams others : List (List Stamped)) (w : ℕ) → Agree w streams others → IsAt pipeline plan streams w → IsAt pipeline plan others w
 IsAt-agree pipeline plan streams others w agree at = record {
+  upto_is = at.upto_is;
   in_order = agree.other_order;
   are_given = AreGiven-same w streams others [] [] pipeline.ops plan.steps agree (Agree-none w) at.are_given;
 }
@@ -238,12 +239,6 @@ rows-released policy (lane ∷ lanes) news (k ∷ heard) w u rows stand released
     ∙ ap (λ r. r ∷ released.3) own_rows
     ∙ ap (λ rs. map row_of (picked_of (is_between w u) policy (name_of lane) k) ∷ rs) (rows-released policy lanes released.1 heard w u released.3 stand.1 released.7)
 
-all_below-between : (w u : ℕ) (lists : List (List Stamped)) → all_below u (all_between w u lists) ≡ all_between w u lists
-all_below-between w u [] = refl
-all_below-between w u (rows ∷ lists) =
-    ap (λ l. l ∷ all_below u (all_between w u lists)) (below-between w u rows)
-    ∙ ap (λ l. between w u rows ∷ l) (all_below-between w u lists)
-
 -- what was taken out of the lanes is what the streams have from w to below u
 pub rows-new : (policy : Policy) (uses : List StreamUse) (counts : List ℕ) (lanes news : List Lane) (heard : List LaneHeard) (w u : ℕ) (rows given : List (List Stamped))
     → AreOfStreams uses counts (map name_of lanes) → LanesStand policy lanes heard w → AreReleased u lanes news rows → given ≡ gathered counts rows
@@ -257,7 +252,7 @@ rows-new policy uses counts lanes news heard w u rows given of stand released is
     ∙ sym (rows-picked (is_between w u) policy uses counts (map name_of lanes) heard of (names-many policy lanes heard w stand)) in
     record {
       in_order = done-in_order w u streams given (rows-order policy uses (log_of counts heard)) same;
-      rows_are = ap (all_below u) same ∙ all_below-between w u streams;
+      rows_are = ap (all_between w u) same ∙ all_between-twice w u streams;
     }
 
 pub drops-stand : (policy : Policy) (lanes : List Lane) (heard : List LaneHeard) (w : ℕ) → LanesStand policy lanes heard w

@@ -7,7 +7,7 @@ use Rattle.row_order.proofs.StretchLemmas.{rows_below-append-rows_between, rows_
 use Rattle.stream_op.specs.Rows.{below, time_of}
 use Rattle.tick_time.specs.Moment.{end_ticks}
 use Rattle.arrival_log.specs.Log.{LaneEntry}
-use Rattle.query_meaning.specs.Lists.{AllInOrder, all_below, all_between}
+use Rattle.query_meaning.specs.Lists.{AllInOrder, all_below, all_between, behind_each}
 use Rattle.query_meaning.specs.Meaning.{rows_of_outputs}
 use Rattle.query_meaning.specs.declared.ready.ReadyPlan.{ReadyPlan}
 use Rattle.query_meaning.specs.Streams.{rows_of_streams, watermark_of_streams}
@@ -15,7 +15,7 @@ use Rattle.query_meaning.proofs.PlanLemmas.{outputs_over-same, plan-laws}
 use Rattle.job_core.specs.Heard.{LaneHeard, cut_lane, entries, log_of, with_lane}
 use Rattle.job_core.specs.Lane.{open_watermark}
 use Rattle.job_core.specs.Lanes.{AreAsMany, AreOfStreams, LaneName, least}
-use Rattle.job_core.specs.Schedule.{AnySchedule, AreOpenSteps, CoreStep, Cut, Feed, IsOpenStep, behind_each, fed_lane, final_below, given_after, heard_after, heard_after_step, meaning, upto_after}
+use Rattle.job_core.specs.Schedule.{AnySchedule, AreOpenSteps, CoreStep, Cut, Feed, IsOpenStep, fed_lane, final_below, given_after, heard_after, heard_after_step, meaning, upto_after}
 use Rattle.job_core.proofs.CoreLemmas.{many-with_lane, picked-fed, rows-agree}
 use Rattle.job_core.proofs.LaneLemmas.{fed-settled, open-settled, open_watermark-more}
 use Rattle.job_core.proofs.StreamLemmas.{each_lane, least-within, log-cut, mark_of, rows-order, watermark-least}

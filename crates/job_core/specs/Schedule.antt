@@ -3,7 +3,7 @@ use Rattle.std.specs.Prelude.{◌≡◌, ◌≤◌, ℕ, Bool, false, List, [], 
 use Rattle.event_value.specs.declared.policy.Policy.{Policy}
 use Rattle.event_value.specs.declared.record.Stamped.{Stamped}
 use Rattle.arrival_log.specs.Log.{LaneEntry}
-use Rattle.query_meaning.specs.Lists.{all_below, all_between}
+use Rattle.query_meaning.specs.Lists.{all_below, all_between, behind_each}
 use Rattle.query_meaning.specs.Meaning.{rows_of_outputs}
 use Rattle.query_meaning.specs.declared.ready.ReadyPlan.{ReadyPlan}
 use Rattle.query_meaning.specs.Streams.{watermark_of_streams}
@@ -40,12 +40,6 @@ IsOpenStep heard Cut = Unit {0}
 abbrev pub AreOpenSteps : List LaneHeard → List CoreStep → Type 0
 AreOpenSteps heard [] = Unit {0}
 AreOpenSteps heard (step ∷ steps) = IsOpenStep heard step × AreOpenSteps (heard_after_step heard step) steps
-
--- the lists of the one, each with that of the other behind it
-abbrev pub behind_each : List (List Stamped) → List (List Stamped) → List (List Stamped)
-behind_each [] others = []
-behind_each (rows ∷ lists) [] = []
-behind_each (rows ∷ lists) (more ∷ others) = (rows ++ more) ∷ behind_each lists others
 
 module _ (plan : ReadyPlan) (policy : Policy) (counts : List ℕ) where
   -- the rows of the outputs over what was heard

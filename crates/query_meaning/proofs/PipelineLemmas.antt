@@ -1,22 +1,21 @@
 -- Operators that go on from one moment to the next.
-use Rattle.std.proofs.Common.{◌≡◌, ℕ, ◌≤◌, ◌<◌, Bool, true, false, ◌&&◌, List, [], ◌∷◌, ◌++◌, map, take, length, refl, sym, ap, subst, ◌∙◌, arith}
+use Rattle.std.proofs.Common.{◌≡◌, ℕ, ◌≤◌, ◌<◌, Bool, true, false, ◌&&◌, List, [], ◌∷◌, ◌++◌, filter, map, length, not, refl, sym, ap, subst, ◌∙◌, arith}
 use Rattle.std.specs.Prelude.{nat_le, nat_lt}
-use Rattle.std.proofs.Math.Seq.{take-append_seam}
-use Rattle.std.proofs.lemmas.Bool.{le-leb}
 use Rattle.std.proofs.lemmas.Bool.Decides.{nat_tests}
+use Rattle.std.proofs.lemmas.List.{length-map}
 use Rattle.event_value.specs.declared.plan.Output.{Output}
 use Rattle.event_value.specs.declared.plan.Step.{Step}
 use Rattle.event_value.specs.declared.record.Stamped.{Stamped}
-use Rattle.row_order.proofs.ListLemmas.{Each-weaker, Each-all, filter-alike, filter-passes, filter-within}
-use Rattle.row_order.proofs.StretchLemmas.{IsInOrder-filter, rows_below-all, rows_below-append-rows_between, rows_below-append-rows_from}
+use Rattle.row_order.proofs.ListLemmas.{Each-weaker, Each-all, filter-alike, filter-filter, filter-none, filter-passes, filter-within}
+use Rattle.row_order.proofs.StretchLemmas.{IsInOrder-filter, rows_below-append-rows_between, rows_between-append-rows_between}
 use Rattle.row_order.specs.InOrder.{AllBelow, AllFrom}
 use Rattle.stream_op.proofs.ScheduleLemmas.{below-zero}
 use Rattle.stream_op.specs.Laws.{Advances}
-use Rattle.stream_op.specs.Rows.{AreInOrder, AreNext, below, between, from_on, time_of}
+use Rattle.stream_op.specs.Rows.{AreInOrder, AreNext, below, between, time_of}
 use Rattle.query_meaning.specs.declared.ready.ReadyPlan.{ReadyPlan}
 use Rattle.query_meaning.specs.declared.ready.ReadyStep.{ReadyStep}
-use Rattle.query_meaning.specs.Lists.{AllInOrder, AreNew, all_below, all_between}
-use Rattle.query_meaning.specs.Meaning.{output_rows, outputs_over}
+use Rattle.query_meaning.specs.Lists.{AllInOrder, AreNew, all_between, behind_each}
+use Rattle.query_meaning.specs.Meaning.{no_rows, output_rows, outputs_over}
 use Rattle.query_meaning.specs.Pipeline.{AreGiven, IsGiven, has_taken}
 use Rattle.query_meaning.specs.StepLaws.{step-laws}
 use Rattle.query_meaning.specs.Steps.{first_rows, list_at, rows_behind, rows_of_steps, second_rows, step_meaning, step_rows}
@@ -55,9 +54,6 @@ between-next w u rows h = record {
 pub between-below : (w u : ℕ) (rows : List Stamped) → between w u (below u rows) ≡ between w u rows
 between-below w u rows = filter-within _ _ (λ row h. and-second _ _ h) rows
 
-pub below-between : (w u : ℕ) (rows : List Stamped) → below u (between w u rows) ≡ between w u rows
-below-between w u rows = rows_below-all time_of u (between w u rows) (between-upto w u rows)
-
 -- what a step makes of its inputs up to a time, it makes of them as they are
 pub step-between : (step : ReadyStep) (w u : ℕ) (left right : List Stamped) → w ≤ u → AreInOrder left → AreInOrder right
     → between w u (step_meaning step (below w left ++ between w u left) (below w right ++ between w u right)) ≡ between w u (step_meaning step left right)
@@ -68,20 +64,73 @@ step-between step w u left right le h k =
     ∙ ap (between w u) (sym (step-laws.past_only step left right u tt h k))
     ∙ between-below w u (step_meaning step left right)
 
-all_below-between : (w u : ℕ) (lists : List (List Stamped)) → all_below u (all_between w u lists) ≡ all_between w u lists
-all_below-between w u [] = refl
-all_below-between w u (rows ∷ lists) =
-    ap (λ l. l ∷ all_below u (all_between w u lists)) (below-between w u rows)
-    ∙ ap (λ l. between w u rows ∷ l) (all_below-between w u lists)
+-- what is between two times is found again in what is between two wider ones
+between-between : (v m w u : ℕ) (rows : List Stamped) → w ≤ v → m ≤ u → between v m (between w u rows) ≡ between v m rows
+between-between v m w u rows low high = filter-within _ _ (λ row h. wider v m w u row.time low high h) rows
+  where
+    wider : (v m w u t : ℕ) → w ≤ v → m ≤ u → (nat_le v t && nat_lt t m) ≡ true → (nat_le w t && nat_lt t u) ≡ true
+    wider v m w u t low high h = grind (arith, nat_tests)
 
--- the new rows of a step's inputs, cut below the new time
+all_between-between : (v m w u : ℕ) (lists : List (List Stamped)) → w ≤ v → m ≤ u → all_between v m (all_between w u lists) ≡ all_between v m lists
+all_between-between v m w u [] low high = refl
+all_between-between v m w u (rows ∷ lists) low high =
+    ap (λ l. l ∷ all_between v m (all_between w u lists)) (between-between v m w u rows low high)
+    ∙ ap (λ l. between v m rows ∷ l) (all_between-between v m w u lists low high)
+
+pub all_between-twice : (w u : ℕ) (lists : List (List Stamped)) → all_between w u (all_between w u lists) ≡ all_between w u lists
+all_between-twice w u lists = all_between-between w u w u lists (omega arith) (omega arith)
+
+-- what is new between two times is so between two that are no wider
+pub AreNew-piece : (v m w u : ℕ) (streams given : List (List Stamped)) → w ≤ v → m ≤ u → AreNew w u streams given → AreNew v m streams given
+AreNew-piece v m w u streams given low high new = record {
+  in_order = new.in_order;
+  rows_are =
+      sym (all_between-between v m w u given low high)
+      ∙ ap (all_between v m) new.rows_are
+      ∙ all_between-between v m w u streams low high;
+}
+
+-- the rows that aren't before one time, and of them those below another
+pub between-parts : (w u : ℕ) (rows : List Stamped) → filter (λ b. nat_lt b.time u) (filter (λ b. not (nat_lt b.time w)) rows) ≡ between w u rows
+between-parts w u rows = filter-filter _ _ rows ∙ filter-alike _ _ rows (Each-all _ (λ row. ap (λ b. b && nat_lt row.time u) (not_before w row.time)) rows)
+  where
+    not_before : (w t : ℕ) → not (nat_lt t w) ≡ nat_le w t
+    not_before w t = grind (arith, nat_tests)
+
+between-none : (w : ℕ) (rows : List Stamped) → between w w rows ≡ []
+between-none w rows = filter-none _ rows (Each-all _ (λ row. nowhere w row.time) rows)
+  where
+    nowhere : (w t : ℕ) → (nat_le w t && nat_lt t w) ≡ false
+    nowhere w t = grind (arith, nat_tests)
+
+-- ---- lists behind each other
+
+pub behind_each-none : (lists : List (List Stamped)) → behind_each lists [] ≡ []
+behind_each-none [] = refl
+behind_each-none (rows ∷ lists) = refl
+
+-- what is between two times, and behind it what is from there to a third one
+pub behind_each-between : (w v u : ℕ) (lists : List (List Stamped)) → w ≤ v → v ≤ u → AllInOrder lists
+    → behind_each (all_between w v lists) (all_between v u lists) ≡ all_between w u lists
+behind_each-between w v u [] low high h = refl
+behind_each-between w v u (rows ∷ lists) low high h =
+    ap (λ l. l ∷ behind_each (all_between w v lists) (all_between v u lists)) (rows_between-append-rows_between time_of w v u rows low high h.0)
+    ∙ ap (λ l. between w u rows ∷ l) (behind_each-between w v u lists low high h.1)
+
+-- as many lists as one and further elements: the first, and as many as these
+pub as_many-first : {X : Type 0} (lists : List (List Stamped)) (x : X) (xs : List X) → length lists ≡ length (x ∷ xs)
+    → (first : List Stamped) × (more : List (List Stamped)) × (lists ≡ first ∷ more) × (length more ≡ length xs)
+as_many-first [] x xs many = absurd (omega (arith, many))
+as_many-first (first ∷ more) x xs many = (first, more, refl, omega (arith, many))
+
+-- the new rows of a step's inputs
 pub first_rows-new : (w u : ℕ) (streams before given done : List (List Stamped)) (step : Step) → AreNew w u streams given → done ≡ all_between w u before
-    → below u (first_rows given done step) ≡ between w u (first_rows streams before step)
+    → between w u (first_rows given done step) ≡ between w u (first_rows streams before step)
 first_rows-new w u streams before given done step new is =
-    sym (first_rows-map (below u) refl given done step)
-    ∙ ap (λ lists. first_rows lists (all_below u done) step) new.rows_are
-    ∙ ap (λ lists. first_rows (all_between w u streams) (all_below u lists) step) is
-    ∙ ap (λ lists. first_rows (all_between w u streams) lists step) (all_below-between w u before)
+    sym (first_rows-map (between w u) refl given done step)
+    ∙ ap (λ lists. first_rows lists (all_between w u done) step) new.rows_are
+    ∙ ap (λ lists. first_rows (all_between w u streams) (all_between w u lists) step) is
+    ∙ ap (λ lists. first_rows (all_between w u streams) lists step) (all_between-twice w u before)
     ∙ first_rows-map (between w u) refl streams before step
 
 pub second_rows-new : (w u : ℕ) (before done : List (List Stamped)) (step : Step) → done ≡ all_between w u before
@@ -104,12 +153,6 @@ rows_behind-push streams done (s ∷ ss) step = rows_behind-push streams (done +
 pub all_between-push : (w u : ℕ) (lists : List (List Stamped)) (rows : List Stamped) → all_between w u (lists ++ rows ∷ []) ≡ all_between w u lists ++ between w u rows ∷ []
 all_between-push w u [] rows = refl
 all_between-push w u (first ∷ lists) rows = ap (λ l. between w u first ∷ l) (all_between-push w u lists rows)
-
--- the rows below a time stand in front of a list in order
-pub take-below : (u : ℕ) (rows : List Stamped) → AreInOrder rows → take (length (below u rows)) rows ≡ below u rows
-take-below u rows h =
-    ap (take (length (below u rows))) (sym (rows_below-append-rows_from time_of u rows h))
-    ∙ take-append_seam (below u rows) (from_on u rows)
 
 -- one operator more
 pub AreGiven-push : (streams done : List (List Stamped)) (ops : List StepOp) (op : StepOp) (steps : List ReadyStep) (step : ReadyStep) (w : ℕ)
@@ -192,17 +235,19 @@ outputs_over-between w u plan streams found steps outputs s o f =
     ∙ ap (λ ss. all_between w u (map (output_rows (rows_of_steps streams ss)) outputs)) s
     ∙ ap (λ os. all_between w u (map (output_rows (rows_of_steps streams plan.steps)) os)) o
 
-between-zero : (u : ℕ) (rows : List Stamped) → between 0 u rows ≡ below u rows
-between-zero u rows = filter-alike _ _ rows (Each-all _ (λ row. zero-first row.time) rows)
+none_between : (w : ℕ) (done : List (List Stamped)) (outputs : List Output) → map no_rows outputs ≡ all_between w w (map (output_rows done) outputs)
+none_between w done [] = refl
+none_between w done (output ∷ outputs) =
+    ap (λ l. l ∷ map no_rows outputs) (sym (between-none w (list_at done output.step)))
+    ∙ ap (λ l. between w w (list_at done output.step) ∷ l) (none_between w done outputs)
+
+-- as many lists of new rows as outputs
+pub as_many-outputs : (w u : ℕ) (plan : ReadyPlan) (streams : List (List Stamped)) → length (all_between w u (outputs_over plan streams)) ≡ length plan.outputs
+as_many-outputs w u plan streams = as_many w u (rows_of_steps streams plan.steps) plan.outputs
   where
-    zero-first : (t : ℕ) → (nat_le 0 t && nat_lt t u) ≡ nat_lt t u
-    zero-first t = ap (λ b. b && nat_lt t u) (le-leb 0 t (omega arith))
+    as_many : (w u : ℕ) (done : List (List Stamped)) (outputs : List Output) → length (all_between w u (map (output_rows done) outputs)) ≡ length outputs
+    as_many w u done outputs = length-map (between w u) (map (output_rows done) outputs) ∙ length-map (output_rows done) outputs
 
-pub all_between-zero : (u : ℕ) (lists : List (List Stamped)) → all_between 0 u lists ≡ all_below u lists
-all_between-zero u [] = refl
-all_between-zero u (rows ∷ lists) =
-    ap (λ l. l ∷ all_between 0 u lists) (between-zero u rows) ∙ ap (λ l. below u rows ∷ l) (all_between-zero u lists)
-
--- all rows are new at first
-pub AreNew-all : (u : ℕ) (streams : List (List Stamped)) → AllInOrder streams → AreNew 0 u streams streams
-AreNew-all u streams h = record { in_order = h; rows_are = sym (all_between-zero u streams) }
+-- before the first piece no output has rows
+pub no_rows-between : (w : ℕ) (plan : ReadyPlan) (streams : List (List Stamped)) → map no_rows plan.outputs ≡ all_between w w (outputs_over plan streams)
+no_rows-between w plan streams = none_between w (rows_of_steps streams plan.steps) plan.outputs

@@ -1,11 +1,15 @@
 -- The rows of a plan's outputs over the log of its streams (docs/ARCHITECTURE).
-use Rattle.std.specs.Prelude.{List, map}
+use Rattle.std.specs.Prelude.{List, [], map}
 use Rattle.event_value.specs.declared.plan.Output.{Output}
 use Rattle.event_value.specs.declared.policy.Policy.{Policy}
 use Rattle.event_value.specs.declared.record.Stamped.{Stamped}
 use Rattle.query_meaning.specs.declared.ready.ReadyPlan.{ReadyPlan}
 use Rattle.query_meaning.specs.Steps.{list_at, rows_of_steps}
 use Rattle.query_meaning.specs.Streams.{Log, rows_of_streams}
+
+-- the rows of an output that has none
+abbrev pub no_rows : Output → List Stamped
+no_rows output = []
 
 -- the rows of an output: those of its step
 abbrev pub output_rows : List (List Stamped) → Output → List Stamped

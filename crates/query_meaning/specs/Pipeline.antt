@@ -1,9 +1,9 @@
 -- Which rows the operators of a plan's steps were given.
-use Rattle.std.specs.Prelude.{◌≡◌, ℕ, ◌≤◌, List, [], ◌∷◌, ◌++◌}
+use Rattle.std.specs.Prelude.{◌≡◌, ℕ, ◌≤◌, List, [], ◌∷◌, ◌++◌, length}
 use Rattle.event_value.specs.declared.record.Stamped.{Stamped}
 use Rattle.stream_op.specs.Laws.{Advances as Advances_by, Standing}
 use Rattle.stream_op.specs.Rows.{below}
-use Rattle.query_meaning.specs.Lists.{AllInOrder, AreNew, all_between}
+use Rattle.query_meaning.specs.Lists.{AllInOrder, AreNew, all_between, behind_each}
 use Rattle.query_meaning.specs.Meaning.{outputs_over}
 use Rattle.query_meaning.specs.Steps.{first_rows, second_rows, step_meaning, step_rows}
 use Rattle.query_meaning.specs.contracts.step_op.StepOpStreamOp.TheImpl.{ghosts}
@@ -37,6 +37,7 @@ AreGiven streams done (op ∷ ops) (step ∷ steps) w =
 -- The pipeline runs this plan over these streams, which are in order of time, and was given their rows below w;
 -- what they have from w on it doesn't know.
 pub record IsAt (pipeline : Pipeline) (plan : ReadyPlan) (streams : List (List Stamped)) (w : ℕ) : Type 0 where
+  pub upto_is : pipeline.upto ≡ w
   pub in_order : AllInOrder streams
   pub are_given : AreGiven streams [] pipeline.ops plan.steps w
 
@@ -46,3 +47,11 @@ abbrev pub Advances : Pipeline → ReadyPlan → List (List Stamped) → ℕ →
 Advances old plan given upto new rows =
     (streams : List (List Stamped)) (w : ℕ) → IsAt old plan streams w → w ≤ upto → AreNew w upto streams given
     → (rows ≡ all_between w upto (outputs_over plan streams)) × IsAt new plan streams upto
+
+-- The pipeline goes on from where it is to a later moment; the new rows of the outputs stand behind those that were
+-- given.
+abbrev pub TakesPiece : Pipeline → ReadyPlan → List (List Stamped) → ℕ → List (List Stamped) → Pipeline → List (List Stamped) → Type 0
+TakesPiece old plan sources upto given new rows =
+    (streams : List (List Stamped)) → IsAt old plan streams old.upto → old.upto ≤ upto → AreNew old.upto upto streams sources
+    → length given ≡ length plan.outputs
+    → (rows ≡ behind_each given (all_between old.upto upto (outputs_over plan streams))) × IsAt new plan streams upto

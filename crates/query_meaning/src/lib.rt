@@ -10,6 +10,7 @@
 
 mod hearing;
 mod laws;
+mod pieces;
 mod pipeline;
 mod ready;
 mod row_specs;

@@ -1,24 +1,31 @@
 //! `Pipeline`, the operators of a plan's steps.
 
-ghost use Rattle.std.specs.Prelude.{◌≡◌, ◌≤◌, ◌∷◌, ℕ, List, [], map, IfOk};
+ghost use Rattle.std.specs.Prelude.{◌≡◌, ◌≤◌, ◌∷◌, ℕ, List, [], map, length, IfOk};
 ghost use Rattle.event_value.specs.declared.record.Stamped.{Stamped};
-ghost use Rattle.query_meaning.specs.Lists.{AllInOrder, AreNew, all_between};
-ghost use Rattle.query_meaning.specs.Meaning.{output_rows};
-ghost use Rattle.query_meaning.specs.Pipeline.{Advances, AreGiven, IsAt, IsGiven};
+ghost use Rattle.query_meaning.specs.Lists.{AllInOrder, AreNew, all_between, behind_each};
+ghost use Rattle.query_meaning.specs.Meaning.{no_rows, output_rows};
+ghost use Rattle.query_meaning.specs.Pipeline.{Advances, AreGiven, IsAt, IsGiven, TakesPiece};
 ghost use Rattle.query_meaning.specs.Steps as spec;
 ghost use Rattle.query_meaning.specs.declared.step_op.StepOp.{StepOp};
-ghost use Rattle.stream_op.specs.Rows.{AreInOrder, below, between};
+ghost use Rattle.stream_op.specs.Rows.{between};
 
+use crate::pieces::{longest_of, moment_within, rows_between};
 use crate::{ReadyPlan, ReadyStep, StepOp};
-use event_value::{Copies, Memory, Output, Seq, Stamped, Step};
+use event_value::{Memory, Output, Seq, Stamped, Step};
 use std::alloc::Global;
-use stream_op::StreamOp;
+use stream_op::{StreamOp, push_rows};
 use tick_time::Moment;
 
-/// The operators of a plan's steps, one for each.
+// A step holds copies of its rows until those of the last step are there, so the rows of the
+// streams are taken piece by piece: this many at a time of the stream that has most.
+const PIECE: usize = 32_768;
+
+/// The operators of a plan's steps, one for each, and the moment below which they were given all
+/// rows.
 #[derive(Drop)]
 pub struct Pipeline {
     ops: Seq<StepOp>,
+    upto: Moment,
 }
 
 impl Pipeline {
@@ -35,12 +42,13 @@ impl Pipeline {
         for step in steps {
             ops.push(StepOp::begin(alloc, step)?)?;
         }
-        Ok(Pipeline { ops })
+        let upto = Moment::zero();
+        Ok(Pipeline { ops, upto })
     }
 
     /// Takes the next rows of the plan's streams, which are then complete below `upto`, and
-    /// answers the rows of each output from the last such moment to below this one. Rows at
-    /// `upto` or later are passed over.
+    /// answers the rows of each output from the last such moment to below this one. Rows before
+    /// that moment, and those at `upto` or later, are passed over.
     ///
     /// # Errors
     /// `Memory` where there was none; the pipeline is then given up.
@@ -54,11 +62,49 @@ impl Pipeline {
         ensures { IfOk result (λ (next, rows). Advances self plan.now sources.now upto
             next rows) }
     {
-        let steps = plan.steps.items();
-        let (ops, done) = advance_steps(alloc, self.ops.into_vec(), steps, sources, upto)?;
-        let rows = rows_of_outputs(alloc, plan.outputs.items(), done.items())?;
-        Ok((Pipeline { ops }, rows))
+        let mut pipeline = self;
+        let mut rows = no_rows_yet(alloc, plan.outputs.items())?;
+        let most = longest_of(sources);
+        for piece in 1..most.len() / PIECE + 1 {
+            let moment = moment_within(most[piece * PIECE - 1].time, pipeline.upto, upto);
+            let (next, given) = pipeline.take_piece(alloc, plan, sources, moment, rows)?;
+            pipeline = next;
+            rows = given;
+        }
+        let (pipeline, rows) = pipeline.take_piece(alloc, plan, sources, upto, rows)?;
+        Ok((pipeline, rows))
     }
+
+    // Takes the rows of the streams from where it is to below `upto`, and puts the new rows of the
+    // outputs behind those that were given.
+    fn take_piece(
+        self,
+        alloc: Global,
+        plan: &ReadyPlan,
+        sources: &[Seq<Stamped>],
+        upto: Moment,
+        given: Seq<Seq<Stamped>>,
+    ) -> Result<(Pipeline, Seq<Seq<Stamped>>), Memory>
+        ensures { IfOk result (λ (next, rows). TakesPiece self plan.now sources.now upto given
+            next rows) }
+    {
+        let steps = plan.steps.items();
+        let ops = self.ops.into_vec();
+        let (ops, done) = advance_steps(alloc, ops, steps, sources, self.upto, upto)?;
+        let rows = with_outputs(alloc, given, plan.outputs.items(), done.items())?;
+        Ok((Pipeline { ops, upto }, rows))
+    }
+}
+
+// An empty list for each output.
+fn no_rows_yet(alloc: Global, outputs: &[Output]) -> Result<Seq<Seq<Stamped>>, Memory>
+    ensures { IfOk result (λ rows. rows ≡ map no_rows outputs.now) }
+{
+    let mut rows = Seq::empty(alloc);
+    for output in outputs {
+        rows.push(Seq::empty(alloc))?;
+    }
+    Ok(rows)
 }
 
 // Advances the operators of steps, each by the new rows of the steps before it; with their new rows.
@@ -67,12 +113,13 @@ fn advance_steps(
     ops: Vec<StepOp>,
     steps: &[ReadyStep],
     sources: &[Seq<Stamped>],
+    from: Moment,
     upto: Moment,
 ) -> Result<(Seq<StepOp>, Seq<Seq<Stamped>>), Memory>
-    ensures { IfOk result (λ (next, done). (streams : List (List Stamped)) (w : ℕ) → w ≤ upto
-        → AllInOrder streams → AreNew w upto streams sources.now
-        → AreGiven streams [] ops.items steps.now w
-        → (done ≡ all_between w upto (spec.rows_of_steps streams steps.now))
+    ensures { IfOk result (λ (next, done). (streams : List (List Stamped)) → from ≤ upto
+        → AllInOrder streams → AreNew from upto streams sources.now
+        → AreGiven streams [] ops.items steps.now from
+        → (done ≡ all_between from upto (spec.rows_of_steps streams steps.now))
         × AreGiven streams [] next steps.now upto) }
 {
     let mut rest = ops;
@@ -80,7 +127,7 @@ fn advance_steps(
     let mut done = Seq::empty(alloc);
     for step in steps {
         let op = take_first(&mut rest);
-        let (op, rows) = advance_step(alloc, op, step, sources, done.items(), upto)?;
+        let (op, rows) = advance_step(alloc, op, step, sources, done.items(), from, upto)?;
         next.push(op)?;
         done.push(rows)?;
     }
@@ -99,39 +146,27 @@ fn take_first(ops: &mut Vec<StepOp>) -> StepOp
     }
 }
 
-// Advances the operator of a step by the new rows of its inputs, those below `upto`.
+// Advances the operator of a step by the new rows of its inputs, those between two moments.
 fn advance_step(
     alloc: Global,
     op: StepOp,
     step: &ReadyStep,
     sources: &[Seq<Stamped>],
     done: &[Seq<Stamped>],
+    from: Moment,
     upto: Moment,
 ) -> Result<(StepOp, Seq<Stamped>), Memory>
-    ensures { IfOk result (λ (next, rows). (streams before : List (List Stamped)) (w : ℕ) → w ≤ upto
-        → AllInOrder streams → AllInOrder before → AreNew w upto streams sources.now
-        → done.now ≡ all_between w upto before
-        → IsGiven streams before op step.now w
-        → (rows ≡ between w upto (spec.step_rows streams before step.now))
+    ensures { IfOk result (λ (next, rows). (streams before : List (List Stamped)) → from ≤ upto
+        → AllInOrder streams → AllInOrder before → AreNew from upto streams sources.now
+        → done.now ≡ all_between from upto before
+        → IsGiven streams before op step.now from
+        → (rows ≡ between from upto (spec.step_rows streams before step.now))
         × IsGiven streams before next step.now upto) }
 {
-    let left = rows_before(first_rows(sources, done, &step.step), upto);
+    let left = rows_between(first_rows(sources, done, &step.step), from, upto);
     let right = second_rows(done, &step.step);
     let (next, rows) = op.advance(alloc, left, right, upto)?;
     Ok((next, rows))
-}
-
-// The rows of a list in order of time that are below a moment.
-fn rows_before(rows: &[Stamped], upto: Moment) -> &[Stamped]
-    ensures { AreInOrder rows.now → result.now ≡ below upto rows.now }
-{
-    let mut count = 0;
-    for row in rows {
-        if row.time < upto {
-            count += 1;
-        }
-    }
-    &rows[..count]
 }
 
 // The rows of a step's first input.
@@ -176,17 +211,34 @@ fn list_at(lists: &[Seq<Stamped>], place: u16) -> &[Stamped]
     }
 }
 
-// Copies of the rows of the outputs' steps.
-fn rows_of_outputs(
+// The rows that were given of each output, with copies of the new rows of its step behind them.
+fn with_outputs(
     alloc: Global,
+    given: Seq<Seq<Stamped>>,
     outputs: &[Output],
     done: &[Seq<Stamped>],
 ) -> Result<Seq<Seq<Stamped>>, Memory>
-    ensures { IfOk result (λ rows. rows ≡ map (output_rows done.now) outputs.now) }
+    ensures { IfOk result (λ rows. length given ≡ length outputs.now
+        → rows ≡ behind_each given (map (output_rows done.now) outputs.now)) }
 {
+    let mut rest = given.into_vec();
     let mut rows = Seq::empty(alloc);
     for output in outputs {
-        rows.push(Seq::of(alloc, list_at(done, output.step))?)?;
+        let mut list = take_rows(alloc, &mut rest);
+        push_rows(&mut list, list_at(done, output.step))?;
+        rows.push(list)?;
     }
     Ok(rows)
+}
+
+// Takes the first list out; an empty one where there is none.
+fn take_rows(alloc: Global, lists: &mut Vec<Seq<Stamped>>) -> Seq<Stamped>
+    ensures { (rows : List Stamped) (rest : List (List Stamped)) → lists.old.items ≡ rows ∷ rest
+        → (result ≡ rows) × (lists.new.items ≡ rest) }
+{
+    if lists.is_empty() {
+        Seq::empty(alloc)
+    } else {
+        lists.remove(0)
+    }
 }

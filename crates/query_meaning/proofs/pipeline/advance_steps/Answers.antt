@@ -9,26 +9,27 @@ use Rattle.query_meaning.proofs.PipelineLemmas.{AreGiven-first, AreGiven-none, A
 use Rattle.query_meaning.proofs.pipeline.advance_steps.Goals as goal
 
 pub loop-step-init : goal.loop-step-init
-loop-step-init c = λ streams w le h new given. record {
+loop-step-init c = λ streams le h new given. record {
   done_are = c.empty-done.ensures;
   rest_given = given;
   next_given = AreGiven-none streams [] c.empty-next.result c.args.upto c.empty-next.ensures;
 }
 
 pub loop-step-preserved : goal.loop-step-preserved
-loop-step-preserved c = λ streams w le h new given.
+loop-step-preserved c = λ streams le h new given.
+    let w = c.args.from in
     let u = c.args.upto in
     let steps = c.args.steps.now in
     let at = c.loop-step.step-index in
     let step = c.step-item.result in
-    let old = c.loop-step.invariant streams w le h new given in
+    let old = c.loop-step.invariant streams le h new given in
     let before = rows_of_steps streams (take at steps) in
     let rest : drop at steps ≡ step ∷ drop (at + 1) steps = drop_more steps at step c.loop-step-test.true ∙ ap (λ (s : ReadyStep). s ∷ drop (at + 1) steps) (sym c.step-item.is) in
     let more : take (at + 1) steps ≡ take at steps ++ step ∷ [] = take_more steps at step c.loop-step-test.true ∙ ap (λ (s : ReadyStep). take at steps ++ s ∷ []) (sym c.step-item.is) in
     let split = AreGiven-first streams before c.loop-step.rest.items step (drop (at + 1) steps) w (subst (λ ss. AreGiven streams before c.loop-step.rest.items ss w) rest old.rest_given) in
     let taken = c.take_first-op.ensures split.0 split.1 split.2 in
     let given_op = subst (λ o. IsGiven streams before o step w) (sym taken.0) split.3 in
-    let gone = c.in_ok-op.ensures streams before w le h (rows_behind-order streams [] (take at steps) h tt) new (c.items.ensures ∙ old.done_are) given_op in
+    let gone = c.in_ok-op.ensures streams before le h (rows_behind-order streams [] (take at steps) h tt) new (c.items.ensures ∙ old.done_are) given_op in
     let rows_are : rows_of_steps streams (take (at + 1) steps) ≡ before ++ step_rows streams before step ∷ [] =
     ap (rows_of_steps streams) more ∙ rows_behind-push streams [] (take at steps) step in
     record {
@@ -48,10 +49,11 @@ loop-step-preserved c = λ streams w le h new given.
     }
 
 pub returns : goal.returns
-returns c = λ streams w le h new given.
+returns c = λ streams le h new given.
+    let w = c.args.from in
     let u = c.args.upto in
     let steps = c.args.steps.now in
-    let old = c.loop-step.invariant streams w le h new given in
+    let old = c.loop-step.invariant streams le h new given in
     let all : take c.loop-step.step-index steps ≡ steps = take_all c.loop-step.step-index steps (omega arith) in (
       old.done_are ∙ ap (λ ss. all_between w u (rows_of_steps streams ss)) all,
       subst (λ ss. AreGiven streams [] c.loop-step.next ss u) all old.next_given,

@@ -25,6 +25,7 @@ returns c = λ streams h.
     let steps = c.items-steps.result.now in
     let all : take c.loop-step.step-index steps ≡ steps = take_all c.loop-step.step-index steps (omega arith) in
     record {
+      upto_is = c.zero-upto.ensures;
       in_order = h;
       are_given = subst (λ ss. AreGiven streams [] c.loop-step.ops ss 0) (all ∙ c.items-steps.ensures) (c.loop-step.invariant streams);
     }
