@@ -246,7 +246,7 @@ pub as_many-outputs : (w u : ℕ) (plan : ReadyPlan) (streams : List (List Stamp
 as_many-outputs w u plan streams = as_many w u (rows_of_steps streams plan.steps) plan.outputs
   where
     as_many : (w u : ℕ) (done : List (List Stamped)) (outputs : List Output) → length (all_between w u (map (output_rows done) outputs)) ≡ length outputs
-    as_many w u done outputs = length-map (between w u) (map (output_rows done) outputs) ∙ length-map (output_rows done) outputs
+    as_many w u done outputs = length-map (map (output_rows done) outputs) (between w u) ∙ length-map outputs (output_rows done)
 
 -- before the first piece no output has rows
 pub no_rows-between : (w : ℕ) (plan : ReadyPlan) (streams : List (List Stamped)) → map no_rows plan.outputs ≡ all_between w w (outputs_over plan streams)

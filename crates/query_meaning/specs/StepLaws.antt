@@ -15,7 +15,7 @@ use Rattle.stream_joins.specs.Snapshots.{Snapshots}
 use Rattle.stream_joins.specs.Specs.{bound_of, lookup_of}
 use Rattle.stream_joins.specs.declared.bound_join.BoundSpec.{BoundSpec}
 use Rattle.stream_joins.specs.declared.reference_join.ReferenceSpec.{ReferenceSpec}
-use Rattle.stream_op.specs.Laws.{IsWithinReach, Meaning, StreamLaws}
+use Rattle.stream_op.specs.Laws.{IsWithinReach, StreamLaws}
 use Rattle.stream_op.specs.OperatorLaws.{filtered-laws, projected-laws, united-laws}
 use Rattle.stream_op.specs.Rows.{AreInOrder, below, from_on, time_of}
 use Rattle.window_flow.specs.PartLaws.{parted-laws}
@@ -23,15 +23,12 @@ use Rattle.window_flow.specs.SessionLaws.{session-sound}
 use Rattle.window_flow.specs.Sessions.{session_fits, session_parting, session_window}
 use Rattle.window_flow.specs.Sliding.{size_of as slide_size, sliding, sliding_fits, sliding_parting}
 use Rattle.window_flow.specs.SlidingLaws.{sliding-sound}
-use Rattle.window_flow.specs.declared.session.SessionSpec.{SessionSpec}
-use Rattle.window_flow.specs.declared.sliding.SlidingSpec.{SlidingSpec}
 use Rattle.window_grid.specs.Grid.{grid, grid_fits, grid_windows, size_of}
 use Rattle.window_grid.specs.GridLaws.{grid_windows-sound}
 use Rattle.window_grid.specs.Snapshot.{snapshot, snapshot_fits, snapshot_windows}
 use Rattle.window_grid.specs.SnapshotLaws.{snapshot_windows-sound}
 use Rattle.window_grid.specs.WindowLaws.{windowed-laws}
-use Rattle.window_grid.specs.declared.grid.GridSpec.{GridSpec}
-use Rattle.query_meaning.specs.Steps.{bound_spec, fitting_grid, fitting_session, fitting_sliding, grid_spec, joined, looked_up, meaning_with, passes, reference_spec, session_spec, sliding_spec, snapshot_spec, step_meaning, values_over, where_fit}
+use Rattle.query_meaning.specs.Steps.{bound_spec, grid_spec, joined, looked_up, meaning_with, passes, reference_spec, session_spec, sliding_spec, snapshot_spec, step_meaning, values_over, where_fit}
 use Rattle.query_meaning.specs.declared.ready.ReadyStep.{ReadyStep}
 
 -- how far back of a row of a step its input may lie, where there is such a number

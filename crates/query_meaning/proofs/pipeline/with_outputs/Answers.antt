@@ -1,4 +1,4 @@
-use Rattle.std.proofs.Common.{◌≡◌, ◌++◌, ◌+◌, ◌∷◌, [], append_assoc, append_nil, drop, drop_of_length-le, length, map, ap, sym, ◌∙◌, arith}
+use Rattle.std.proofs.Common.{◌≡◌, ◌++◌, ◌+◌, ◌∷◌, [], append_assoc, append-nil, drop, drop_of_length-le, length, map, ap, sym, ◌∙◌, arith}
 use Rattle.std.proofs.lemmas.List.{drop_more}
 use Rattle.event_value.specs.declared.plan.Output.{Output}
 use Rattle.query_meaning.specs.Lists.{behind_each}
@@ -21,7 +21,7 @@ loop-output-preserved c = λ many.
     let at = c.loop-output.output-index in
     let output = c.output-item.result in
     let old = c.loop-output.invariant many in
-    let more : drop at outputs ≡ output ∷ drop (at + 1) outputs = drop_more outputs at c.loop-output-test.true ∙ ap (λ (o : Output). o ∷ drop (at + 1) outputs) (sym c.output-item.is) in
+    let more : drop at outputs ≡ output ∷ drop (at + 1) outputs = drop_more outputs at output c.loop-output-test.true ∙ ap (λ (o : Output). o ∷ drop (at + 1) outputs) (sym c.output-item.is) in
     let split = as_many-first c.loop-output.rest.items output (drop (at + 1) outputs) (old.as_many ∙ ap length more) in
     let taken = c.take_rows-list.ensures split.0 split.1 split.2 in
     let list = c.in_ok-push_rows.ensures ∙ ap (λ l. l ++ c.list_at.result.now) taken.0 ∙ ap (λ l. split.0 ++ l) c.list_at.ensures in
@@ -44,7 +44,7 @@ returns c = λ many.
     let old = c.loop-output.invariant many in
     let rest = c.loop-output.rest.items in
     let none : drop c.loop-output.output-index outputs ≡ [] = drop_of_length-le outputs (omega arith) in
-    sym (append_nil c.loop-output.rows)
+    sym (append-nil c.loop-output.rows)
     ∙ ap (λ l. c.loop-output.rows ++ l) (sym (behind_each-none rest))
     ∙ ap (λ os. c.loop-output.rows ++ behind_each rest (map made os)) (sym none)
     ∙ old.rows_are

@@ -1,4 +1,4 @@
-use Rattle.std.proofs.Common.{List, [], sym, subst}
+use Rattle.std.proofs.Common.{[], sym, subst}
 use Rattle.std.proofs.lemmas.Result.{IfOk-weaker}
 use Rattle.event_value.specs.declared.expr.Cond.{Cond}
 use Rattle.stream_joins.specs.Snapshots.{Snapshots}

@@ -1,4 +1,4 @@
-use Rattle.std.proofs.Common.{◌≡◌, ◌≤◌, ap, length, map, sym, subst, ◌∙◌, arith}
+use Rattle.std.proofs.Common.{◌≤◌, ap, length, map, sym, subst, ◌∙◌, arith}
 use Rattle.query_meaning.specs.Lists.{all_between, behind_each}
 use Rattle.query_meaning.specs.Meaning.{no_rows, outputs_over}
 use Rattle.query_meaning.specs.Pipeline.{IsAt}
