@@ -1,9 +1,9 @@
 -- The batch of ended inputs that were read whole.
-use Rattle.std.proofs.Common.{◌≡◌, ℕ, zero, suc, ◌+◌, Bool, true, min, List, [], ◌∷◌, ◌++◌, length, map, take, drop, Option, Some, None, refl, ap, sym, subst, ◌∙◌, arith}
-use Rattle.std.specs.Prelude.{slice_get, ◌≢◌}
+use Rattle.std.proofs.Common.{◌≡◌, ℕ, zero, suc, ◌+◌, Bool, true, ◌&&◌, min, List, [], ◌∷◌, ◌++◌, length, map, take, drop, Option, Some, None, refl, ap, sym, subst, ◌∙◌, arith}
+use Rattle.std.specs.Prelude.{nat_le, nat_lt, slice_get, ◌≢◌}
 use Rattle.std.specs.List.{All, AllPairs, flat_map, sum_by}
 use Rattle.std.specs.Option.{IfSome, option_map}
-use Rattle.std.proofs.lemmas.Bool.{eq-eqb}
+use Rattle.std.proofs.lemmas.Bool.{eq-eqb, le-leb}
 use Rattle.std.proofs.lemmas.List.{drop-map, length-map, map-append, take-map}
 use Rattle.std.proofs.lemmas.List.Concat.{flat_map-cons}
 use Rattle.std.proofs.lemmas.List.Elements.{All-map, All-weaker}
@@ -30,13 +30,14 @@ use Rattle.job_core.specs.Fresh.{lane_counts, partitions_in}
 use Rattle.job_core.specs.Heard.{LaneHeard, entries, heard_lane, is_closed, log_of}
 use Rattle.job_core.specs.declared.job.Core.{Core}
 use Rattle.outside.specs.KnownFiles.{KnownFiles}
-use Rattle.query_meaning.specs.Lists.{all_between}
+use Rattle.query_meaning.specs.Lists.{all_below, all_between}
 use Rattle.query_meaning.specs.Meaning.{outputs_over}
 use Rattle.query_meaning.specs.Ready.{columns_of_stream, ready_over, ready_plan, reference_width, stream_width}
 use Rattle.query_meaning.specs.Streams.{Log, drops_of_lanes, drops_of_streams, judge_of, rows_of_streams, watermark_of_streams}
 use Rattle.query_meaning.specs.declared.ready.ReadyPlan.{ReadyPlan}
-use Rattle.query_meaning.proofs.PipelineLemmas.{all_between-zero}
+use Rattle.row_order.proofs.ListLemmas.{Each-all, filter-alike}
 use Rattle.stream_joins.specs.Snapshots.{Snapshots}
+use Rattle.stream_op.specs.Rows.{below, between}
 use Rattle.tick_time.specs.Moment.{end_ticks}
 use Rattle.log_reading.specs.Batch.{IsWholeBatch}
 use Rattle.log_reading.specs.Core.{FeedsCore}
@@ -44,6 +45,19 @@ use Rattle.log_reading.specs.Ended.{ended_inputs, ended_partition, ended_stream}
 use Rattle.log_reading.specs.Log.{lane_in, lanes_in, log_files, log_in, partition_files, segment_in, stream_files}
 use Rattle.log_reading.specs.Places.{LanePlace, heard_at, heard_in, place_at, places, places_in}
 use Rattle.log_reading.proofs.FeedingLemmas.{position-lane_entries}
+
+-- ---- what is between moment 0 and another is what is below it
+
+between-zero : (u : ℕ) (rows : List Stamped) → between 0 u rows ≡ below u rows
+between-zero u rows = filter-alike _ _ rows (Each-all _ (λ row. zero-first row.time) rows)
+  where
+    zero-first : (t : ℕ) → (nat_le 0 t && nat_lt t u) ≡ nat_lt t u
+    zero-first t = ap (λ b. b && nat_lt t u) (le-leb 0 t (omega arith))
+
+all_between-zero : (u : ℕ) (lists : List (List Stamped)) → all_between 0 u lists ≡ all_below u lists
+all_between-zero u [] = refl
+all_between-zero u (rows ∷ lists) =
+    ap (λ l. l ∷ all_between 0 u lists) (between-zero u rows) ∙ ap (λ l. below u rows ∷ l) (all_between-zero u lists)
 
 -- ---- ended inputs are well formed
 
