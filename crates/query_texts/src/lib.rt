@@ -1,8 +1,10 @@
-//! Queries as texts: read, refused at their place, printed; and readings of small trees. Tests alone.
+//! Queries as texts: read, refused at their place, printed, also from a copy of their tree; and
+//! readings of small trees. Tests alone.
 //! Each table has a line for each query, worked out by hand; docs/QUERY has the rules.
-//! What matters: the tables in forms.rt, refusals.rt, limits.rt and canonical.rt; readings.rt has the
-//! trees.
-//! It gives no function: those that it calls are query_parse's, query_print's and query_senses'.
+//! What matters: the tables in forms.rt, refusals.rt, limits.rt and canonical.rt; of copies, the
+//! tables in copies.rt and places.rt; readings.rt has the trees.
+//! It gives no function: those that it calls are query_parse's, query_print's, tree_copies' and
+//! query_senses'.
 #![tactic(auto)]
 
 #[cfg(test)]
@@ -10,9 +12,13 @@ mod answers;
 #[cfg(test)]
 mod canonical;
 #[cfg(test)]
+mod copies;
+#[cfg(test)]
 mod forms;
 #[cfg(test)]
 mod limits;
+#[cfg(test)]
+mod places;
 #[cfg(test)]
 mod readings;
 #[cfg(test)]
