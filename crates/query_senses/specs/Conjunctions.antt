@@ -2,11 +2,11 @@
 use Rattle.std.specs.Prelude.{ℕ, ◌+◌, ◌==◌, if◌then◌else◌, Bool, Option, Some, None, List, [], ◌∷◌, ◌++◌}
 use Rattle.query_tree.specs.declared.expr.And.{And, out-And}
 use Rattle.query_tree.specs.declared.expr.Not.{Not}
-use Rattle.query_senses.specs.declared.form.Form.{Form}
-use Rattle.query_senses.specs.declared.form.Form.TheVariants as form
-use Rattle.query_senses.specs.declared.reading.Reading.{Reading}
-use Rattle.query_senses.specs.declared.scope.Scope.{Scope}
-use Rattle.query_senses.specs.Reading.{chain}
+use Rattle.query_forms.specs.declared.form.Form.{Form}
+use Rattle.query_forms.specs.declared.form.Form.TheVariants as form
+use Rattle.query_readings.specs.declared.reading.Reading.{Reading}
+use Rattle.query_readings.specs.declared.scope.Scope.{Scope}
+use Rattle.query_readings.specs.Reading.{chain}
 use Rattle.query_senses.specs.Readings.{reading_of_not}
 
 abbrev pub other : Scope → Bool → Not → List Reading

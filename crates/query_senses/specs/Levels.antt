@@ -2,9 +2,9 @@
 use Rattle.std.specs.Prelude.{List}
 use Rattle.query_tree.specs.declared.expr.Args.TheOpen.{Args-F, Call-F, Not-F, PredRest-F, Primary-F, Unary-F, And-F, Case-F, Expr-F, Pred-F, Prod-F, ProdMore-F, Sum-F, SumMore-F, When-F}
 use Rattle.query_senses.specs.declared.calls.Given.{Given}
-use Rattle.query_senses.specs.declared.reading.Part.{Part}
-use Rattle.query_senses.specs.declared.reading.Reading.{Reading}
-use Rattle.query_senses.specs.declared.reading.Rest.{Rest}
+use Rattle.query_readings.specs.declared.reading.Part.{Part}
+use Rattle.query_readings.specs.declared.reading.Reading.{Reading}
+use Rattle.query_readings.specs.declared.reading.Rest.{Rest}
 
 abbrev pub ArgsLevel : Type 0
 ArgsLevel =

@@ -12,18 +12,18 @@ use Rattle.query_tree.specs.declared.name.TypeName.{TypeName}
 use Rattle.query_senses.specs.declared.calls.Given.{Given}
 use Rattle.query_senses.specs.declared.calls.Mark.{Mark}
 use Rattle.query_senses.specs.declared.calls.Mark.TheVariants.{Plain, Distinct}
-use Rattle.query_senses.specs.declared.fault.Rule.TheVariants as rule
-use Rattle.query_senses.specs.declared.form.Form.{Form}
-use Rattle.query_senses.specs.declared.form.Form.TheVariants as form
-use Rattle.query_senses.specs.declared.reading.Face.TheVariants as face
-use Rattle.query_senses.specs.declared.reading.Reading.{Reading}
-use Rattle.query_senses.specs.declared.reading.Rest.{Rest}
-use Rattle.query_senses.specs.declared.scope.Scope.{Scope}
-use Rattle.query_senses.specs.declared.sense.Sense.{Sense}
-use Rattle.query_senses.specs.declared.sense.Sense.TheVariants.{Value}
-use Rattle.query_senses.specs.Faults.{and_then, refused}
-use Rattle.query_senses.specs.Reading.{Outcome, formed, formed_of_one, refused_reading}
-use Rattle.query_senses.specs.Senses.{valued}
+use Rattle.query_forms.specs.declared.fault.Rule.TheVariants as rule
+use Rattle.query_forms.specs.declared.form.Form.{Form}
+use Rattle.query_forms.specs.declared.form.Form.TheVariants as form
+use Rattle.query_readings.specs.declared.reading.Face.TheVariants as face
+use Rattle.query_readings.specs.declared.reading.Reading.{Reading}
+use Rattle.query_readings.specs.declared.reading.Rest.{Rest}
+use Rattle.query_readings.specs.declared.scope.Scope.{Scope}
+use Rattle.query_forms.specs.declared.sense.Sense.{Sense}
+use Rattle.query_forms.specs.declared.sense.Sense.TheVariants.{Value}
+use Rattle.query_forms.specs.Faults.{and_then, refused}
+use Rattle.query_readings.specs.Reading.{Outcome, formed, formed_of_one, refused_reading}
+use Rattle.query_forms.specs.Senses.{valued}
 
 -- a number that is written out
 abbrev pub number_sense : Number → Sense

@@ -22,20 +22,21 @@ use Rattle.query_tree.specs.declared.expr.SumMore.{SumMore, fold-SumMore}
 use Rattle.query_tree.specs.declared.expr.When.{When, fold-When}
 use Rattle.query_senses.specs.declared.calls.Given.{Given}
 use Rattle.query_senses.specs.declared.calls.Mark.TheVariants.{Star}
-use Rattle.query_senses.specs.declared.form.Form.{Form}
-use Rattle.query_senses.specs.declared.form.Form.TheVariants as form
-use Rattle.query_senses.specs.declared.reading.Face.TheVariants as face
-use Rattle.query_senses.specs.declared.reading.Part.{Part}
-use Rattle.query_senses.specs.declared.reading.Reading.{Reading}
-use Rattle.query_senses.specs.declared.reading.Rest.{Rest}
-use Rattle.query_senses.specs.declared.scope.Scope.{Scope}
-use Rattle.query_senses.specs.declared.sense.Sense.TheVariants.{Value}
-use Rattle.query_senses.specs.Forms.{rel_of, sum_form, prod_form}
-use Rattle.query_senses.specs.Functions.{like_form}
+use Rattle.query_forms.specs.declared.form.Form.{Form}
+use Rattle.query_forms.specs.declared.form.Form.TheVariants as form
+use Rattle.query_readings.specs.declared.reading.Face.TheVariants as face
+use Rattle.query_readings.specs.declared.reading.Part.{Part}
+use Rattle.query_readings.specs.declared.reading.Reading.{Reading}
+use Rattle.query_readings.specs.declared.reading.Rest.{Rest}
+use Rattle.query_readings.specs.declared.scope.Scope.{Scope}
+use Rattle.query_forms.specs.declared.sense.Sense.TheVariants.{Value}
+use Rattle.query_forms.specs.Forms.{rel_of, sum_form, prod_form}
+use Rattle.query_readings.specs.Functions.{like_form}
 use Rattle.query_senses.specs.Levels.{ArgsLevel, CallLevel, NotLevel, PredRestLevel, PrimaryLevel, UnaryLevel, AndLevel, CaseLevel, ExprLevel, PredLevel, ProdLevel, ProdMoreLevel, SumLevel, SumMoreLevel, WhenLevel}
 use Rattle.query_senses.specs.Parts.{number_sense, nested, nothing_given, mark_of, cast_reading, pred_reading}
-use Rattle.query_senses.specs.Reading.{called, chain, column_reading, formed, formed_of_one, operations, plain}
-use Rattle.query_senses.specs.Senses.{valued}
+use Rattle.query_senses.specs.Calls.{called}
+use Rattle.query_readings.specs.Reading.{chain, column_reading, formed, formed_of_one, operations, plain}
+use Rattle.query_forms.specs.Senses.{valued}
 
 abbrev pub list_of : Option Reading → List Reading
 list_of None = []

@@ -1,16 +1,14 @@
 //! Calls, by the function that their name names.
 
 ghost use Rattle.std.specs.Prelude.{◌≡◌, IfOk};
-ghost use Rattle.query_senses.specs.Reading as spec;
+ghost use Rattle.query_senses.specs.Calls as spec;
 
-use crate::aggregates::{aggregate, row_count};
-use crate::columns::time_reading;
-use crate::fault::Rule;
-use crate::form::Form;
-use crate::functions::{DateOperation, Function, date_form, function_of};
-use crate::reading::{Reading, formed, refused_reading};
-use crate::scope::Scope;
 use event_value::{AggKind, Memory, Seq};
+use query_forms::{Form, Rule};
+use query_readings::{
+    DateOperation, Function, Reading, Scope, aggregate, date_form, formed, function_of,
+    refused_reading, row_count, time_reading,
+};
 use query_tree::Path;
 use std::alloc::Global;
 
@@ -135,7 +133,7 @@ fn function_with_mark(
     }
 }
 
-#[tactic(auto, unfolding(crate::specs::Reading::called_function))]
+#[tactic(auto, unfolding(crate::specs::Calls::called_function))]
 fn called_function(
     alloc: Global,
     scope: &Scope,
@@ -163,7 +161,7 @@ fn called_function(
 }
 
 /// A call of the function that a path names.
-#[tactic(auto, unfolding(crate::specs::Reading::called))]
+#[tactic(auto, unfolding(crate::specs::Calls::called))]
 pub fn called(
     alloc: Global,
     scope: &Scope,

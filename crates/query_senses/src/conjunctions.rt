@@ -4,10 +4,9 @@ ghost use Rattle.std.specs.Prelude.{◌≡◌, ◌++◌, IfOk, OnOk};
 ghost use Rattle.query_senses.specs.Conjunctions as spec;
 
 use crate::expressions::read_not;
-use crate::form::Form;
-use crate::reading::{Reading, chain};
-use crate::scope::Scope;
 use event_value::{Memory, Seq};
+use query_forms::Form;
+use query_readings::{Reading, Scope, chain};
 use query_tree::{And, Not};
 use std::alloc::Global;
 

@@ -4,14 +4,13 @@ ghost use Rattle.std.specs.Prelude.{◌≡◌, ◌++◌, IfOk, OnOk};
 ghost use Rattle.query_senses.specs.Readings as spec;
 
 use crate::calls::{Given, Mark, called};
-use crate::columns::column_reading;
-use crate::form::{Form, prod_form, rel_of, sum_form};
-use crate::functions::like_form;
 use crate::parts::{cast_reading, mark_of, nested, nothing_given, number_sense, pred_reading};
-use crate::reading::{Face, Part, Reading, Rest, chain, formed, formed_of_one, operations, plain};
-use crate::scope::Scope;
-use crate::sense::{Sense, Valued};
 use event_value::{Copies, Expr, Kind, Memory, Op, Seq, Value};
+use query_forms::{Form, Sense, Valued, prod_form, rel_of, sum_form};
+use query_readings::{
+    Face, Part, Reading, Rest, Scope, chain, column_reading, formed, formed_of_one, like_form,
+    operations, plain,
+};
 use query_tree as tree;
 use std::alloc::Global;
 

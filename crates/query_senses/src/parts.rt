@@ -5,12 +5,9 @@ ghost use Rattle.tick_time.specs.Unit.{is_name};
 ghost use Rattle.query_senses.specs.Parts as spec;
 
 use crate::calls::{Given, Mark};
-use crate::fault::{Rule, refuse};
-use crate::form::Form;
-use crate::reading::{Face, Outcome, Reading, Rest, formed, formed_of_one, refused_reading};
-use crate::scope::Scope;
-use crate::sense::{Sense, Valued};
 use event_value::{Expr, Kind, Memory, Seq, Value};
+use query_forms::{Form, Rule, Sense, Valued, refuse};
+use query_readings::{Face, Outcome, Reading, Rest, Scope, formed, formed_of_one, refused_reading};
 use query_tree::{Number, TypeName};
 use std::alloc::Global;
 

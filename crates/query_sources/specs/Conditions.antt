@@ -3,14 +3,14 @@ use Rattle.std.specs.Prelude.{ℕ, Ok, Err}
 use Rattle.event_value.specs.declared.expr.Cond.{Cond}
 use Rattle.event_value.specs.declared.plan.Step.TheVariants.{Filter}
 use Rattle.query_tree.specs.declared.expr.Expr.{Expr, out-Expr}
-use Rattle.query_senses.specs.declared.fault.Rule.TheVariants as rule
-use Rattle.query_senses.specs.declared.reading.Side.{Side}
-use Rattle.query_senses.specs.declared.scope.Scope.{Scope}
-use Rattle.query_senses.specs.declared.sense.Sense.{Sense}
-use Rattle.query_senses.specs.declared.sense.Sense.TheVariants.{Value, Condition}
-use Rattle.query_senses.specs.declared.sense.Valued.{Valued}
-use Rattle.query_senses.specs.Faults.{Checked, and_then, refused}
-use Rattle.query_senses.specs.Reading.{Outcome, outcome_of}
+use Rattle.query_forms.specs.declared.fault.Rule.TheVariants as rule
+use Rattle.query_readings.specs.declared.reading.Side.{Side}
+use Rattle.query_readings.specs.declared.scope.Scope.{Scope}
+use Rattle.query_forms.specs.declared.sense.Sense.{Sense}
+use Rattle.query_forms.specs.declared.sense.Sense.TheVariants.{Value, Condition}
+use Rattle.query_forms.specs.declared.sense.Valued.{Valued}
+use Rattle.query_forms.specs.Faults.{Checked, and_then, refused}
+use Rattle.query_readings.specs.Reading.{Outcome, outcome_of}
 use Rattle.query_senses.specs.Readings.{reading}
 use Rattle.query_sources.specs.declared.draft.Draft.{Draft}
 use Rattle.query_sources.specs.Drafts.{noted, with_step}

@@ -12,20 +12,20 @@ use Rattle.query_tree.specs.declared.source.Join.{Join}
 use Rattle.query_tree.specs.declared.source.Side.{Side}
 use Rattle.query_tree.specs.declared.source.Side.TheVariants.{Inner, Left}
 use Rattle.query_tree.specs.declared.source.Source.{Source}
-use Rattle.query_senses.specs.declared.fault.Rule.TheVariants as rule
-use Rattle.query_senses.specs.declared.reading.Reading.{Reading}
-use Rattle.query_senses.specs.declared.scope.Scope.{Scope}
-use Rattle.query_senses.specs.declared.scope.ScopeSource.{ScopeSource}
-use Rattle.query_senses.specs.Faults.{Checked}
+use Rattle.query_forms.specs.declared.fault.Rule.TheVariants as rule
+use Rattle.query_readings.specs.declared.reading.Reading.{Reading}
+use Rattle.query_readings.specs.declared.scope.Scope.{Scope}
+use Rattle.query_readings.specs.declared.scope.ScopeSource.{ScopeSource}
+use Rattle.query_forms.specs.Faults.{Checked}
 use Rattle.query_senses.specs.Conjunctions.{reading_without}
 use Rattle.query_senses.specs.Readings.{reading}
-use Rattle.query_sources.specs.declared.bounds.Bound.{Bound}
+use Rattle.query_literals.specs.declared.bounds.Bound.{Bound}
 use Rattle.query_sources.specs.declared.draft.Draft.{Draft}
 use Rattle.query_sources.specs.declared.joins.Joined.{Joined}
 use Rattle.query_sources.specs.declared.known.KnownSource.{KnownSource}
 use Rattle.query_sources.specs.declared.known.Origin.{Origin}
 use Rattle.query_sources.specs.declared.known.Origin.TheVariants as origin
-use Rattle.query_sources.specs.Bounds.{bound_of}
+use Rattle.query_literals.specs.Bounds.{bound_of}
 use Rattle.query_sources.specs.Conditions.{condition_of, place_of}
 use Rattle.query_sources.specs.Drafts.{noted, noted_at, with_step}
 use Rattle.query_sources.specs.Known.{known_named}

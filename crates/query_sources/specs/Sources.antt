@@ -6,10 +6,10 @@ use Rattle.query_tree.specs.declared.source.Alias.{Alias}
 use Rattle.query_tree.specs.declared.source.Join.{Join}
 use Rattle.query_tree.specs.declared.source.Source.{Source}
 use Rattle.query_tree.specs.declared.source.Stamp.{Stamp}
-use Rattle.query_senses.specs.declared.fault.Rule.TheVariants as rule
-use Rattle.query_senses.specs.declared.scope.Scope.{Scope}
-use Rattle.query_senses.specs.declared.scope.ScopeColumn.{ScopeColumn}
-use Rattle.query_senses.specs.declared.scope.ScopeSource.{ScopeSource}
+use Rattle.query_forms.specs.declared.fault.Rule.TheVariants as rule
+use Rattle.query_readings.specs.declared.scope.Scope.{Scope}
+use Rattle.query_readings.specs.declared.scope.ScopeColumn.{ScopeColumn}
+use Rattle.query_readings.specs.declared.scope.ScopeSource.{ScopeSource}
 use Rattle.query_sources.specs.declared.draft.Draft.{Draft}
 use Rattle.query_sources.specs.declared.draft.Mention.{Mention}
 use Rattle.query_sources.specs.declared.draft.Stamping.{Stamping}

@@ -7,19 +7,19 @@ use Rattle.query_tree.specs.declared.name.Path.{Path}
 use Rattle.query_tree.specs.declared.source.Over.{Over}
 use Rattle.query_tree.specs.declared.source.Stamp.{Stamp}
 use Rattle.query_tree.specs.declared.expr.Expr as tree
-use Rattle.query_senses.specs.declared.columns.Finding.{Finding}
-use Rattle.query_senses.specs.declared.columns.Finding.TheVariants as finding
-use Rattle.query_senses.specs.declared.fault.Fault.{Fault}
-use Rattle.query_senses.specs.declared.fault.Rule.TheVariants as rule
-use Rattle.query_senses.specs.declared.scope.Scope.{Scope}
-use Rattle.query_senses.specs.declared.scope.ScopeSource.{ScopeSource}
-use Rattle.query_senses.specs.declared.sense.Sense.{Sense}
-use Rattle.query_senses.specs.declared.sense.Sense.TheVariants.{Value, Condition}
-use Rattle.query_senses.specs.Faults.{Checked, and_then, fault_at, refused}
-use Rattle.query_senses.specs.Kinds.{is_of}
-use Rattle.query_senses.specs.Reading.{Outcome, finding_of}
+use Rattle.query_readings.specs.declared.columns.Finding.{Finding}
+use Rattle.query_readings.specs.declared.columns.Finding.TheVariants as finding
+use Rattle.query_forms.specs.declared.fault.Fault.{Fault}
+use Rattle.query_forms.specs.declared.fault.Rule.TheVariants as rule
+use Rattle.query_readings.specs.declared.scope.Scope.{Scope}
+use Rattle.query_readings.specs.declared.scope.ScopeSource.{ScopeSource}
+use Rattle.query_forms.specs.declared.sense.Sense.{Sense}
+use Rattle.query_forms.specs.declared.sense.Sense.TheVariants.{Value, Condition}
+use Rattle.query_forms.specs.Faults.{Checked, and_then, fault_at, refused}
+use Rattle.query_forms.specs.Kinds.{is_of}
+use Rattle.query_readings.specs.Reading.{Outcome, finding_of}
 use Rattle.query_senses.specs.Readings.{reading}
-use Rattle.query_senses.specs.Same.{is_same_expr}
+use Rattle.query_readings.specs.Same.{is_same_expr}
 use Rattle.query_sources.specs.declared.draft.Draft.{Draft}
 use Rattle.query_sources.specs.declared.draft.Mention.{Mention}
 use Rattle.query_sources.specs.declared.draft.Stamping.{Stamping}

@@ -5,9 +5,9 @@ ghost use Rattle.query_sources.specs.Conditions as spec;
 
 use crate::draft::Draft;
 use event_value::{Cond, Memory, Step};
-use query_senses::{
-    Checked, Outcome, Rule, Scope, Sense, Side, Valued, read_expr, refuse, take_side,
-};
+use query_forms::{Checked, Rule, Sense, Valued, refuse};
+use query_readings::{Outcome, Scope, Side, take_side};
+use query_senses::read_expr;
 use query_tree::Expr;
 use std::alloc::Global;
 

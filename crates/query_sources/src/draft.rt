@@ -4,7 +4,7 @@ ghost use Rattle.std.specs.Prelude.{◌≡◌, ◌++◌, ◌∷◌, [], IfOk, On
 ghost use Rattle.query_sources.specs.Drafts as spec;
 
 use event_value::{Expr, Memory, Seq, Step};
-use query_senses::{Fault, Rule};
+use query_forms::{Fault, Rule};
 
 /// What a mention of a stream says of the time of its records.
 #[derive(Drop)]
@@ -55,7 +55,7 @@ impl Draft {
     pub fn note_all(&mut self, faults: &[Fault]) -> Result<(), Memory>
         ensures { OnOk result (self.new ≡ spec.noted faults.now self.old) }
     {
-        query_senses::push_faults(&mut self.faults, faults)
+        query_forms::push_faults(&mut self.faults, faults)
     }
 
     /// Adds a step at the end; its rows go on.

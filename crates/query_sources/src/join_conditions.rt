@@ -5,7 +5,9 @@ ghost use Rattle.query_sources.specs.Joins as spec;
 
 use crate::conditions::condition_of;
 use event_value::{Cond, Expr, Memory, Rel, Value};
-use query_senses::{Checked, Reading, Scope, read_and_without, read_expr};
+use query_forms::Checked;
+use query_readings::{Reading, Scope};
+use query_senses::{read_and_without, read_expr};
 use query_tree as tree;
 use query_tree::Side;
 use std::alloc::Global;

@@ -3,13 +3,14 @@
 ghost use Rattle.std.specs.Prelude.{◌≡◌, IfOk, OnOk};
 ghost use Rattle.query_sources.specs.Joins as spec;
 
-use crate::bounds::{Bound, bound_of};
 use crate::draft::Draft;
 use crate::join_conditions::{condition_beside, condition_on, is_outer};
 use crate::known::{KnownSource, Origin, known_named};
 use crate::sources::{push_scope_source, qualifier, scope_of};
 use event_value::{Cond, Memory, Seq, Step};
-use query_senses::{Checked, Rule, Scope};
+use query_forms::{Checked, Rule};
+use query_literals::{Bound, bound_of};
+use query_readings::Scope;
 use query_tree::{Join, Source, Tail};
 use std::alloc::Global;
 

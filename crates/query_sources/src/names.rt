@@ -5,7 +5,7 @@ ghost use Rattle.query_sources.specs.Names as spec;
 
 use crate::draft::Draft;
 use event_value::{Copies, Memory, Seq};
-use query_senses::Rule;
+use query_forms::Rule;
 use query_tree::Name;
 use std::alloc::Global;
 

@@ -9,7 +9,8 @@ use crate::known::{KnownSource, Origin, ResultColumn, known_named};
 use crate::names::note_repeats;
 use crate::stamps::read_stamp;
 use event_value::{Copies, Memory, Seq};
-use query_senses::{Rule, Scope, ScopeColumn, ScopeSource};
+use query_forms::Rule;
+use query_readings::{Scope, ScopeColumn, ScopeSource};
 use query_tree::{Name, Source, Stamp, Tail};
 use std::alloc::Global;
 

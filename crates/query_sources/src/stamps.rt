@@ -5,10 +5,9 @@ ghost use Rattle.query_sources.specs.Stamps as spec;
 
 use crate::draft::{Draft, Mention, Stamping};
 use event_value::{Expr, Kind, Memory, Seq};
-use query_senses::{
-    Checked, Fault, Finding, Outcome, Rule, Scope, ScopeSource, Sense, finding_of, is_of,
-    is_same_expr, read_expr, refuse,
-};
+use query_forms::{Checked, Fault, Rule, Sense, is_of, refuse};
+use query_readings::{Finding, Outcome, Scope, ScopeSource, finding_of, is_same_expr};
+use query_senses::read_expr;
 use query_tree::{Over, Path, Stamp};
 use std::alloc::Global;
 

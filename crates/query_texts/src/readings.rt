@@ -1,7 +1,9 @@
 //! Readings of small trees, worked out by hand.
 
 use event_value::{Expr, Kind, Memory, Seq, Text, Value};
-use query_senses::{Reading, Rule, Scope, ScopeColumn, ScopeSource, Sense, read_expr};
+use query_forms::{Rule, Sense};
+use query_readings::{Reading, Scope, ScopeColumn, ScopeSource};
+use query_senses::read_expr;
 use query_tree as tree;
 use query_tree::{And, Name, Not, Path, Pred, Primary, Prod, Sum, Unary};
 use sqlite_items::Items;

@@ -8,18 +8,18 @@ use Rattle.query_tree.specs.declared.select.Item.{Item}
 use Rattle.query_tree.specs.declared.select.SelectItems.{SelectItems}
 use Rattle.query_tree.specs.declared.select.SelectItems.TheVariants.{Star, Listed}
 use Rattle.query_tree.specs.declared.source.Alias.{Alias}
-use Rattle.query_senses.specs.declared.fault.Rule.{Rule}
-use Rattle.query_senses.specs.declared.fault.Rule.TheVariants as rule
-use Rattle.query_senses.specs.declared.reading.Face.{Face}
-use Rattle.query_senses.specs.declared.reading.Face.TheVariants.{Word, Qualified, Literal, Other}
-use Rattle.query_senses.specs.declared.reading.Side.{Side}
-use Rattle.query_senses.specs.declared.reading.Side.TheVariants.{Rows, Groups}
-use Rattle.query_senses.specs.declared.scope.Scope.{Scope}
-use Rattle.query_senses.specs.declared.scope.ScopeColumn.{ScopeColumn}
-use Rattle.query_senses.specs.declared.scope.ScopeSource.{ScopeSource}
-use Rattle.query_senses.specs.declared.sense.Valued.{Valued}
-use Rattle.query_senses.specs.Faults.{Checked, fault_at}
-use Rattle.query_senses.specs.Reading.{outcome_of}
+use Rattle.query_forms.specs.declared.fault.Rule.{Rule}
+use Rattle.query_forms.specs.declared.fault.Rule.TheVariants as rule
+use Rattle.query_readings.specs.declared.reading.Face.{Face}
+use Rattle.query_readings.specs.declared.reading.Face.TheVariants.{Word, Qualified, Literal, Other}
+use Rattle.query_readings.specs.declared.reading.Side.{Side}
+use Rattle.query_readings.specs.declared.reading.Side.TheVariants.{Rows, Groups}
+use Rattle.query_readings.specs.declared.scope.Scope.{Scope}
+use Rattle.query_readings.specs.declared.scope.ScopeColumn.{ScopeColumn}
+use Rattle.query_readings.specs.declared.scope.ScopeSource.{ScopeSource}
+use Rattle.query_forms.specs.declared.sense.Valued.{Valued}
+use Rattle.query_forms.specs.Faults.{Checked, fault_at}
+use Rattle.query_readings.specs.Reading.{outcome_of}
 use Rattle.query_senses.specs.Readings.{reading}
 use Rattle.query_type.specs.declared.items.Picked.{Picked}
 use Rattle.query_sources.specs.declared.known.ResultColumn.{ResultColumn}

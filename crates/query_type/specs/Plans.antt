@@ -11,10 +11,10 @@ use Rattle.query_tree.specs.declared.script.MoreStmt.{MoreStmt}
 use Rattle.query_tree.specs.declared.script.Script.{Script}
 use Rattle.query_tree.specs.declared.script.Stmt.{Stmt}
 use Rattle.query_tree.specs.declared.script.With.{With}
-use Rattle.query_senses.specs.declared.fault.Fault.{Fault}
-use Rattle.query_senses.specs.declared.fault.Rule.{Rule}
-use Rattle.query_senses.specs.declared.fault.Rule.TheVariants as rule
-use Rattle.query_senses.specs.Faults.{least}
+use Rattle.query_forms.specs.declared.fault.Fault.{Fault}
+use Rattle.query_forms.specs.declared.fault.Rule.{Rule}
+use Rattle.query_forms.specs.declared.fault.Rule.TheVariants as rule
+use Rattle.query_forms.specs.Faults.{least}
 use Rattle.query_sources.specs.declared.draft.Draft.{Draft}
 use Rattle.query_sources.specs.declared.draft.Mention.{Mention}
 use Rattle.query_sources.specs.declared.draft.Stamping.{Stamping}

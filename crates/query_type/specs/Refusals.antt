@@ -1,8 +1,8 @@
 -- The refusal of a script: the least of its faults, as the answer names it.
 use Rattle.std.specs.Prelude.{◌≡◌, ◌⊎◌, ℕ, Option, Some, None, Result, Ok, Err}
-use Rattle.query_senses.specs.declared.fault.Fault.{Fault}
-use Rattle.query_senses.specs.declared.fault.Rule.{Rule}
-use Rattle.query_senses.specs.declared.fault.Rule.TheVariants as rule
+use Rattle.query_forms.specs.declared.fault.Fault.{Fault}
+use Rattle.query_forms.specs.declared.fault.Rule.{Rule}
+use Rattle.query_forms.specs.declared.fault.Rule.TheVariants as rule
 use Rattle.query_type.specs.declared.type_err.TypeErr.{TypeErr}
 use Rattle.query_type.specs.declared.type_err.TypeErr.TheVariants as err
 

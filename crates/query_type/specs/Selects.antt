@@ -8,11 +8,11 @@ use Rattle.query_tree.specs.declared.select.GroupBy.{GroupBy}
 use Rattle.query_tree.specs.declared.select.Having.{Having}
 use Rattle.query_tree.specs.declared.select.SelectItems.{SelectItems}
 use Rattle.query_tree.specs.declared.select.Tail.{Tail}
-use Rattle.query_senses.specs.declared.fault.Rule.TheVariants as rule
-use Rattle.query_senses.specs.declared.reading.AggregateCall.{AggregateCall}
-use Rattle.query_senses.specs.declared.reading.Side.TheVariants.{Rows, Groups}
-use Rattle.query_senses.specs.declared.scope.GroupKey.{GroupKey}
-use Rattle.query_senses.specs.declared.scope.Scope.{Scope}
+use Rattle.query_forms.specs.declared.fault.Rule.TheVariants as rule
+use Rattle.query_readings.specs.declared.reading.AggregateCall.{AggregateCall}
+use Rattle.query_readings.specs.declared.reading.Side.TheVariants.{Rows, Groups}
+use Rattle.query_readings.specs.declared.scope.GroupKey.{GroupKey}
+use Rattle.query_readings.specs.declared.scope.Scope.{Scope}
 use Rattle.query_sources.specs.declared.draft.Draft.{Draft}
 use Rattle.query_type.specs.declared.items.Picked.{Picked}
 use Rattle.query_sources.specs.declared.known.KnownSource.{KnownSource}

@@ -4,9 +4,9 @@ use Rattle.event_value.specs.declared.kind.Kind.{Kind}
 use Rattle.event_value.specs.declared.plan.Step.TheVariants as step
 use Rattle.query_tree.specs.declared.script.Union.{Union}
 use Rattle.query_tree.specs.declared.select.Select.{Select}
-use Rattle.query_senses.specs.declared.fault.Rule.TheVariants as rule
-use Rattle.query_senses.specs.Kinds.{is_same_kind}
-use Rattle.query_senses.specs.Same.{all_hold}
+use Rattle.query_forms.specs.declared.fault.Rule.TheVariants as rule
+use Rattle.query_forms.specs.Kinds.{is_same_kind}
+use Rattle.query_readings.specs.Same.{all_hold}
 use Rattle.query_sources.specs.declared.draft.Draft.{Draft}
 use Rattle.query_sources.specs.declared.known.KnownSource.{KnownSource}
 use Rattle.query_sources.specs.declared.known.ResultColumn.{ResultColumn}

@@ -5,7 +5,7 @@ ghost use Rattle.query_windows.specs.Groups.{first_window};
 ghost use Rattle.query_type.specs.Selects as spec;
 
 use event_value::{Aggregate, Memory, Seq, Step};
-use query_senses::{AggregateCall, GroupKey, Scope};
+use query_readings::{AggregateCall, GroupKey, Scope};
 use query_sources::{Draft, number_of};
 use query_tree::{GroupBy, Having, SelectItems};
 use query_windows::{Window, arguments_of, call_columns, calls_of_select, read_groups};

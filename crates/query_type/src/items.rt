@@ -4,9 +4,9 @@ ghost use Rattle.std.specs.Prelude.{◌≡◌, ◌++◌, ◌+◌, IfOk, OnOk, le
 ghost use Rattle.query_type.specs.Items as spec;
 
 use event_value::{Copies, Expr, Memory, Seq, Text, push_number};
-use query_senses::{
-    Checked, Face, Fault, Rule, Scope, ScopeColumn, Side, Valued, push_faults, read_expr, take_side,
-};
+use query_forms::{Checked, Fault, Rule, Valued, push_faults};
+use query_readings::{Face, Scope, ScopeColumn, Side, take_side};
+use query_senses::read_expr;
 use query_sources::{ResultColumn, value_of};
 use query_tree::{Item, Name, SelectItems};
 use std::alloc::Global;

@@ -11,7 +11,7 @@ use crate::unions::{join_selects, read_union};
 use crate::uses::uses_of;
 use event_value::{Copies, Memory, Output, Plan, Seq, Text};
 use input_book::Inputs;
-use query_senses::{Fault, Rule, least, push_faults};
+use query_forms::{Fault, Rule, least, push_faults};
 use query_sources::{
     Draft, KnownSource, Origin, faults_of_mentions, names_of_script, references_of, streams_of,
 };

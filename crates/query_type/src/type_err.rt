@@ -4,7 +4,7 @@ ghost use Rattle.std.specs.Prelude.{◌≡◌};
 ghost use Rattle.query_type.specs.Refusals.{err_of_fault, no_memory};
 
 use event_value::Memory;
-use query_senses::{Fault, Rule};
+use query_forms::{Fault, Rule};
 
 /// Why a script has no plan, each but the last with the place of the part that breaks the rule.
 #[derive(Clone, Copy, Debug, PartialEq, Eq)]

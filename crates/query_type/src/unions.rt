@@ -5,7 +5,7 @@ ghost use Rattle.query_type.specs.Unions as spec;
 
 use crate::selects::read_select;
 use event_value::{Copies, Kind, Memory, Seq, Step};
-use query_senses::{Rule, is_same_kind};
+use query_forms::{Rule, is_same_kind};
 use query_sources::{Draft, KnownSource, ResultColumn};
 use query_tree::{Select, Union};
 use std::alloc::Global;

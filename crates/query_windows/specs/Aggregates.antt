@@ -9,10 +9,10 @@ use Rattle.query_tree.specs.declared.select.Having.{Having}
 use Rattle.query_tree.specs.declared.select.Item.{Item}
 use Rattle.query_tree.specs.declared.select.SelectItems.{SelectItems}
 use Rattle.query_tree.specs.declared.select.SelectItems.TheVariants.{Star, Listed}
-use Rattle.query_senses.specs.declared.reading.AggregateCall.{AggregateCall}
-use Rattle.query_senses.specs.declared.scope.AggregateColumn.{AggregateColumn}
-use Rattle.query_senses.specs.declared.scope.GroupKey.{GroupKey}
-use Rattle.query_senses.specs.declared.scope.Scope.{Scope}
+use Rattle.query_readings.specs.declared.reading.AggregateCall.{AggregateCall}
+use Rattle.query_readings.specs.declared.scope.AggregateColumn.{AggregateColumn}
+use Rattle.query_readings.specs.declared.scope.GroupKey.{GroupKey}
+use Rattle.query_readings.specs.declared.scope.Scope.{Scope}
 use Rattle.query_senses.specs.Readings.{reading}
 use Rattle.query_windows.specs.declared.aggregates.Arguments.{Arguments}
 

@@ -22,8 +22,8 @@ use Rattle.query_tree.specs.declared.name.Name.{Name}
 use Rattle.query_tree.specs.declared.name.Path.{Path}
 use Rattle.query_windows.specs.declared.arguments.Argument.{Argument}
 use Rattle.query_windows.specs.declared.arguments.Argument.TheVariants as argument
-use Rattle.query_sources.specs.Bare.{bare_primary, PrimaryNode}
-use Rattle.query_sources.specs.Literals.{literal_in, unit_in, unit_of_path, whole_in, whole_of_number}
+use Rattle.query_literals.specs.Bare.{bare_primary, PrimaryNode}
+use Rattle.query_literals.specs.Literals.{literal_in, unit_in, unit_of_path, whole_in, whole_of_number}
 
 abbrev pub duration_or_hop : List ℕ → Unit → Option ℤ → Argument
 duration_or_hop word unit None = argument.Other

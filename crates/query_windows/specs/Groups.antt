@@ -10,14 +10,14 @@ use Rattle.query_tree.specs.declared.name.Path.{Path}
 use Rattle.query_tree.specs.declared.select.Group.{Group}
 use Rattle.query_tree.specs.declared.select.GroupBy.{GroupBy}
 use Rattle.query_tree.specs.declared.select.Partition.{Partition}
-use Rattle.query_senses.specs.declared.fault.Fault.{Fault}
-use Rattle.query_senses.specs.declared.fault.Rule.{Rule}
-use Rattle.query_senses.specs.declared.fault.Rule.TheVariants as rule
-use Rattle.query_senses.specs.declared.scope.GroupKey.{GroupKey}
-use Rattle.query_senses.specs.declared.scope.Scope.{Scope}
-use Rattle.query_senses.specs.declared.sense.Valued.{Valued}
-use Rattle.query_senses.specs.Faults.{Checked, fault_at}
-use Rattle.query_senses.specs.Functions.{is_time}
+use Rattle.query_forms.specs.declared.fault.Fault.{Fault}
+use Rattle.query_forms.specs.declared.fault.Rule.{Rule}
+use Rattle.query_forms.specs.declared.fault.Rule.TheVariants as rule
+use Rattle.query_readings.specs.declared.scope.GroupKey.{GroupKey}
+use Rattle.query_readings.specs.declared.scope.Scope.{Scope}
+use Rattle.query_forms.specs.declared.sense.Valued.{Valued}
+use Rattle.query_forms.specs.Faults.{Checked, fault_at}
+use Rattle.query_readings.specs.Functions.{is_time}
 use Rattle.query_senses.specs.Readings.{reading}
 use Rattle.query_windows.specs.declared.groups.Grouping.{Grouping}
 use Rattle.query_windows.specs.declared.windows.Window.{Window}
@@ -27,7 +27,7 @@ use Rattle.query_windows.specs.declared.windows.WindowName.{WindowName}
 use Rattle.query_windows.specs.declared.windows.WindowName.TheVariants as called
 use Rattle.query_sources.specs.Conditions.{place_of, value_of}
 use Rattle.query_windows.specs.Arguments.{CallNode}
-use Rattle.query_sources.specs.Bare.{PrimaryNode, bare_primary}
+use Rattle.query_literals.specs.Bare.{PrimaryNode, bare_primary}
 use Rattle.query_sources.specs.Stamps.{columns_listed}
 use Rattle.query_windows.specs.Windows.{window_named, window_of}
 

@@ -3,8 +3,8 @@ use Rattle.std.specs.Prelude.{ℕ, Bool, ◌&&◌, if◌then◌else◌, Option, 
 use Rattle.tick_time.specs.Span.{span_of_units}
 use Rattle.tick_time.specs.Unit.{is_name}
 use Rattle.query_tree.specs.declared.expr.Args.{Args}
-use Rattle.query_senses.specs.declared.fault.Rule.TheVariants as rule
-use Rattle.query_senses.specs.Faults.{Checked, refused}
+use Rattle.query_forms.specs.declared.fault.Rule.TheVariants as rule
+use Rattle.query_forms.specs.Faults.{Checked, refused}
 use Rattle.query_windows.specs.declared.arguments.Argument.{Argument}
 use Rattle.query_windows.specs.declared.lengths.Length.{Length}
 use Rattle.query_windows.specs.declared.lengths.Lengths.{Lengths}

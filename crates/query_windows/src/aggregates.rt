@@ -4,7 +4,8 @@ ghost use Rattle.std.specs.Prelude.{◌≡◌, ◌++◌, IfOk, OnOk};
 ghost use Rattle.query_windows.specs.Aggregates as spec;
 
 use event_value::{Aggregate, Expr, Memory, Seq};
-use query_senses::{AggregateCall, AggregateColumn, GroupKey, Scope, push_calls, read_expr};
+use query_readings::{AggregateCall, AggregateColumn, GroupKey, Scope, push_calls};
+use query_senses::read_expr;
 use query_sources::number_of;
 use query_tree::{Expr as Tree, Having, Item, SelectItems};
 use std::alloc::Global;

@@ -5,7 +5,7 @@ ghost use Rattle.tick_time.specs.Unit.{is_name};
 ghost use Rattle.query_windows.specs.Arguments as spec;
 
 use event_value::{Memory, Seq};
-use query_sources::{bare_primary, literal_in, unit_in, unit_of_path, whole_in, whole_of_number};
+use query_literals::{bare_primary, literal_in, unit_in, unit_of_path, whole_in, whole_of_number};
 use query_tree::{Args, Call, Expr, Path, Primary};
 use std::alloc::Global;
 use tick_time::Unit;

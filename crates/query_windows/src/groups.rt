@@ -5,10 +5,11 @@ ghost use Rattle.query_windows.specs.Groups as spec;
 
 use crate::windows::{Window, WindowName, window_named, window_of};
 use event_value::{Memory, Seq};
-use query_senses::{
-    Checked, Fault, GroupKey, Rule, Scope, Valued, is_time, push_faults, read_expr,
-};
-use query_sources::{Columns, bare_primary, columns_listed, number_of, value_of};
+use query_forms::{Checked, Fault, Rule, Valued, push_faults};
+use query_literals::bare_primary;
+use query_readings::{GroupKey, Scope, is_time};
+use query_senses::read_expr;
+use query_sources::{Columns, columns_listed, number_of, value_of};
 use query_tree::{Args, Call, Expr, Group, GroupBy, Partition, Path, Primary};
 use std::alloc::Global;
 

@@ -9,7 +9,7 @@ use crate::lengths::{
     Length, Lengths, SessionLengths, hopping_of, session_of, sliding_of, tumbling_of,
 };
 use event_value::Memory;
-use query_senses::{Checked, Rule, refuse};
+use query_forms::{Checked, Rule, refuse};
 use query_tree::Args;
 use std::alloc::Global;
 use tick_time::{Span, span_of};

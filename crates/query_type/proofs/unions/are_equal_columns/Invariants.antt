@@ -1,5 +1,5 @@
 use Rattle.std.proofs.Common.{◌≡◌, map, drop}
-use Rattle.query_senses.specs.Same.{all_hold}
+use Rattle.query_readings.specs.Same.{all_hold}
 use Rattle.query_type.specs.Unions as spec
 use Rattle.query_type.proofs.unions.are_equal_columns.Given as goal
 

@@ -1,7 +1,0 @@
-use Rattle.std.proofs.Common.{◌≡◌, drop}
-use Rattle.query_senses.specs.Reading as spec
-use Rattle.query_senses.proofs.columns.column_in.Given as goal
-
-abbrev pub invariant-loop-column : goal.invariant-loop-column
-invariant-loop-column l =
-    spec.column_in (drop l.column-index l.columns) l.name ≡ spec.column_in l.columns l.name

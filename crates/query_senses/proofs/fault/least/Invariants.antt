@@ -1,7 +1,0 @@
-use Rattle.std.proofs.Common.{◌≡◌, drop}
-use Rattle.query_senses.specs.Faults as spec
-use Rattle.query_senses.proofs.fault.least.Given as goal
-
-abbrev pub invariant-loop-fault : goal.invariant-loop-fault
-invariant-loop-fault l =
-    spec.least_from l.least (drop l.fault-index l.rest) ≡ spec.least_from l.initial.least l.rest
