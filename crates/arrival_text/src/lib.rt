@@ -17,8 +17,6 @@ mod json_lines;
 mod json_values;
 mod lines;
 mod segments;
-#[cfg(test)]
-mod tests;
 
 pub use csv_records::csv_items;
 pub use json_lines::json_items;

@@ -29,8 +29,6 @@ mod refusals;
 mod root;
 mod shapes;
 mod source;
-#[cfg(test)]
-mod tests;
 mod texts;
 
 pub use input_err::InputErr;

@@ -7,8 +7,8 @@ mod lengths;
 mod references;
 mod whole;
 
-use crate::{InputErr, read_inputs};
 use event_value::Text;
+use input_book::{InputErr, read_inputs};
 use std::alloc::Global;
 use std::process::Abort;
 use std::test::Fail;

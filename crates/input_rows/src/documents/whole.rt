@@ -1,7 +1,7 @@
 //! What accepted documents give.
 
-use crate::{Inputs, SegmentName, SnapshotName, read_inputs};
 use event_value::{Column, Copies, Format, Kind, Policy};
+use input_book::{Inputs, SegmentName, SnapshotName, read_inputs};
 use std::alloc::Global;
 use std::process::Abort;
 use std::test::Fail;

@@ -1,7 +1,7 @@
 //! CSV: values of each kind, the header, the order of the rules, records and their ends, limits.
 
 use super::{filled, one_column, shows, two_columns};
-use crate::csv_items;
+use arrival_text::csv_items;
 use event_value::{Columns, Kind, Memory, Text};
 use std::alloc::Global;
 use std::process::Abort;

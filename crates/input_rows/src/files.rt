@@ -5,7 +5,7 @@
 mod csv_files;
 mod json_files;
 
-use crate::too_long_items;
+use arrival_text::too_long_items;
 use event_value::{
     Column, Columns, Item, Kind, Memory, Rule, Seq, Text, Value, push_number, push_value,
 };

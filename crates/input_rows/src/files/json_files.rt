@@ -1,7 +1,7 @@
 //! JSON lines: values of each kind, paths, the order of the rules, lines and their ends, limits.
 
 use super::{filled, one_column, shows, two_columns};
-use crate::json_items;
+use arrival_text::json_items;
 use event_value::{Columns, Kind, Memory, Text};
 use std::alloc::Global;
 use std::process::Abort;
