@@ -10,8 +10,6 @@ mod evaluation;
 mod numbers;
 mod operations;
 mod patterns;
-#[cfg(test)]
-mod tests;
 mod texts;
 mod truths;
 

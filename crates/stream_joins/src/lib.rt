@@ -14,8 +14,6 @@ mod matches;
 mod near;
 mod pairs;
 mod reference_join;
-#[cfg(test)]
-mod tests;
 mod versions;
 
 pub use bound_join::{BoundJoin, BoundSpec};

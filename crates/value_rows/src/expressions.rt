@@ -6,8 +6,8 @@ mod choices;
 mod conditions;
 mod operations;
 
-use crate::{eval, holds};
 use event_value::{Cond, Expr, Memory, Op, Text, Value};
+use expr_eval::{eval, holds};
 use sqlite_items::Items;
 use std::alloc::Global;
 use tick_time::Moment;

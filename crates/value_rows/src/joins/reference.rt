@@ -1,10 +1,10 @@
 //! Tests of the join with a reference.
 
 use super::{Joined, Row, are_joined, equal_keys, moment, rows_of};
-use crate::{Matches, ReferenceJoin, ReferenceSpec, Versions};
 use event_value::{Memory, Seq, Stamped};
 use std::alloc::Global;
 use std::test::Fail;
+use stream_joins::{Matches, ReferenceJoin, ReferenceSpec, Versions};
 use stream_op::{StreamOp, push_rows};
 use tick_time::Moment;
 

@@ -7,9 +7,9 @@
 mod bound;
 mod reference;
 
-use crate::JoinCond;
 use event_value::{Cond, Expr, Memory, Rel, Seq, Stamped, Value};
 use std::alloc::Global;
+use stream_joins::JoinCond;
 use tick_time::Moment;
 
 /// A time below 1,000 seconds, a key and a number.

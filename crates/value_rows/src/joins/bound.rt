@@ -3,10 +3,10 @@
 ghost use Rattle.std.specs.Prelude.{true};
 
 use super::{Joined, Row, SECOND, are_joined, equal_keys, moment, rows_of};
-use crate::{BoundJoin, BoundSpec, Matches};
 use event_value::{Copies, Memory, Seq, Stamped, Value};
 use std::alloc::Global;
 use std::test::Fail;
+use stream_joins::{BoundJoin, BoundSpec, Matches};
 use stream_op::{StreamOp, push_rows};
 use tick_time::{Moment, Unit, span_of};
 

@@ -2,8 +2,8 @@
 
 use super::Spelt::{self, Big, Moment, Null, Text};
 use super::{has_value, lit, value};
-use crate::eval;
 use event_value::{Branch, Cond, Expr, Kind, Memory, Op, Rel, Value};
+use expr_eval::eval;
 use sqlite_items::{Boxed, Items};
 use std::alloc::Global;
 use std::test::Fail;
