@@ -19,8 +19,6 @@ mod named_reading;
 mod reading;
 mod reference_rows;
 mod references;
-#[cfg(test)]
-mod tests;
 
 pub use named_read_err::NamedReadErr;
 pub use named_reading::read_named;

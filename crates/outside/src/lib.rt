@@ -15,8 +15,6 @@ mod mem_sink;
 mod reading;
 mod segment;
 mod sink;
-#[cfg(test)]
-mod tests;
 mod unread;
 mod writing;
 

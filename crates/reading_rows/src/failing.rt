@@ -2,11 +2,11 @@
 
 ghost use Rattle.std.specs.Prelude.{Some};
 
-use crate::{
+use event_value::{Copies, Memory, Seq, Text};
+use outside::{
     FileErr, Files, HeldFile, MemFiles, MemSink, ReadErr, Segment, Sink, SinkErr, read_file,
     write_all,
 };
-use event_value::{Copies, Memory, Seq, Text};
 use std::alloc::Global;
 use std::test::Fail;
 
