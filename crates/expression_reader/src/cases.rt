@@ -21,10 +21,10 @@ pub fn cast(parser: &mut Parser<'_, '_>, left: u32) -> Result<Primary, Stop>
         (λ primary. read_cast (readers left) parser.old ≡ Ok (primary, parser.new)) }
     ensures err { IfErr result (IsStop (read_cast (readers left) parser.old) parser.new) }
 {
-    let word = parser.take(&[Symbol::Cast, Symbol::TryCast])?;
-    parser.open(Symbol::Open, left)?;
-    let inner = inner_expr(parser, left)?;
-    let kind = parser.cast_type(left - 1)?;
+    let word = read_or_stop!(parser.take(&[Symbol::Cast, Symbol::TryCast]));
+    read_or_stop!(parser.open(Symbol::Open, left));
+    let inner = read_or_stop!(inner_expr(parser, left));
+    let kind = read_or_stop!(parser.cast_type(left - 1));
     Ok(Primary::Call(Call::Cast(word.place(), cast_word(word), inner, kind)))
 }
 
@@ -36,11 +36,11 @@ pub fn case(parser: &mut Parser<'_, '_>, left: u32) -> Result<Primary, Stop>
         (λ primary. read_case (readers left) parser.old ≡ Ok (primary, parser.new)) }
     ensures err { IfErr result (IsStop (read_case (readers left) parser.old) parser.new) }
 {
-    let word = parser.open(Symbol::Case, left)?;
-    let subject = subject(parser, left)?;
-    let first = when(parser, left)?;
-    let more = whens(parser, left)?;
-    let otherwise = case_end(parser, left)?;
+    let word = read_or_stop!(parser.open(Symbol::Case, left));
+    let subject = read_or_stop!(subject(parser, left));
+    let first = read_or_stop!(when(parser, left));
+    let more = read_or_stop!(whens(parser, left));
+    let otherwise = read_or_stop!(case_end(parser, left));
     Ok(Primary::Case(Case {
         place: word.place(),
         subject,

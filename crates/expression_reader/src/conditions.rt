@@ -22,8 +22,8 @@ pub fn pred(parser: &mut Parser<'_, '_>, left: u32) -> Result<Pred, Stop>
     ensures err { IfErr result (IsStop (read_pred (readers left) parser.old) parser.new) }
 {
     let place = parser.place();
-    let sum = sum(parser, left)?;
-    let rest = perhaps_rest(parser, left)?;
+    let sum = read_or_stop!(sum(parser, left));
+    let rest = read_or_stop!(perhaps_rest(parser, left), sum);
     Ok(Pred { place, sum, rest })
 }
 
@@ -36,7 +36,7 @@ pub fn perhaps_rest(parser: &mut Parser<'_, '_>, left: u32) -> Result<Option<Pre
         (IsStop (read_perhaps rest_symbols (read_pred_rest (readers left)) parser.old) parser.new) }
 {
     if parser.begins_rest() {
-        Ok(Some(pred_rest(parser, left)?))
+        Ok(Some(read_or_stop!(pred_rest(parser, left))))
     } else {
         Ok(None)
     }
@@ -66,15 +66,15 @@ pub fn compare(parser: &mut Parser<'_, '_>, left: u32) -> Result<PredRest, Stop>
         (λ rest. read_compare (readers left) parser.old ≡ Ok (rest, parser.new)) }
     ensures err { IfErr result (IsStop (read_compare (readers left) parser.old) parser.new) }
 {
-    let sign = parser.take(&[
+    let sign = read_or_stop!(parser.take(&[
         Symbol::Equal,
         Symbol::Unequal,
         Symbol::Less,
         Symbol::LessEqual,
         Symbol::Greater,
         Symbol::GreaterEqual,
-    ])?;
-    let sum = sum(parser, left)?;
+    ]));
+    let sum = read_or_stop!(sum(parser, left));
     Ok(PredRest::Compare(sign.place(), rel_of(sign), sum))
 }
 
@@ -131,10 +131,10 @@ pub fn between(
         (IsStop (negatable_rest place not (mapped to_left (read_between (readers left) parser.old)))
         parser.new) }
 {
-    parser.expect(Symbol::Between)?;
-    let low = sum(parser, left)?;
-    parser.expect(Symbol::And)?;
-    let high = sum(parser, left)?;
+    read_or_stop!(parser.expect(Symbol::Between));
+    let low = read_or_stop!(sum(parser, left));
+    read_or_stop!(parser.expect(Symbol::And), low);
+    let high = read_or_stop!(sum(parser, left), low);
     Ok(PredRest::Between(place, not, low, high))
 }
 
@@ -156,11 +156,11 @@ pub fn in_list(
         (mapped to_right (mapped to_left (read_in_list (readers left) parser.old))))
         parser.new) }
 {
-    parser.expect(Symbol::In)?;
-    parser.open(Symbol::Open, left)?;
-    let first = inner_expr(parser, left)?;
-    let more = more_exprs(parser, left)?;
-    parser.expect(Symbol::Close)?;
+    read_or_stop!(parser.expect(Symbol::In));
+    read_or_stop!(parser.open(Symbol::Open, left));
+    let first = read_or_stop!(inner_expr(parser, left));
+    let more = read_or_stop!(more_exprs(parser, left));
+    read_or_stop!(parser.expect(Symbol::Close));
     Ok(PredRest::In(place, not, first, more))
 }
 
@@ -177,8 +177,8 @@ pub fn like(parser: &mut Parser<'_, '_>, place: u32, not: bool, left: u32) -> Re
         (mapped to_right (mapped to_right (read_like (readers left) parser.old))))
         parser.new) }
 {
-    parser.expect(Symbol::Like)?;
-    let sum = sum(parser, left)?;
+    read_or_stop!(parser.expect(Symbol::Like));
+    let sum = read_or_stop!(sum(parser, left));
     Ok(PredRest::Like(place, not, sum))
 }
 
@@ -188,8 +188,8 @@ pub fn is_null(parser: &mut Parser<'_, '_>) -> Result<PredRest, Stop>
     ensures ok { IfOk result (λ rest. read_is_null parser.old ≡ Ok (rest, parser.new)) }
     ensures err { IfErr result (IsStop (read_is_null parser.old) parser.new) }
 {
-    let word = parser.expect(Symbol::Is)?;
+    let word = read_or_stop!(parser.expect(Symbol::Is));
     let not = parser.flag(Symbol::Not);
-    parser.expect(Symbol::Null)?;
+    read_or_stop!(parser.expect(Symbol::Null));
     Ok(PredRest::IsNull(word.place(), not))
 }

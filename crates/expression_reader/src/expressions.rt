@@ -21,8 +21,8 @@ pub fn expr(parser: &mut Parser<'_, '_>, left: u32) -> Result<Expr, Stop>
     ensures err { IfErr result (IsStop (read_expr left parser.old) parser.new) }
 {
     let place = parser.place();
-    let first = conjunction(parser, left)?;
-    let more = ors(parser, left)?;
+    let first = read_or_stop!(conjunction(parser, left));
+    let more = read_or_stop!(ors(parser, left), first);
     Ok(Expr { place, first, more })
 }
 
@@ -49,7 +49,7 @@ pub fn or_more(parser: &mut Parser<'_, '_>, left: u32) -> Result<And, Stop>
         (λ part. read_or_more (readers left) parser.old ≡ Ok (part, parser.new)) }
     ensures err { IfErr result (IsStop (read_or_more (readers left) parser.old) parser.new) }
 {
-    parser.expect(Symbol::Or)?;
+    read_or_stop!(parser.expect(Symbol::Or));
     conjunction(parser, left)
 }
 
@@ -62,8 +62,8 @@ pub fn conjunction(parser: &mut Parser<'_, '_>, left: u32) -> Result<And, Stop>
     ensures err { IfErr result (IsStop (read_conjunction (readers left) parser.old) parser.new) }
 {
     let place = parser.place();
-    let first = not(parser, left)?;
-    let more = ands(parser, left)?;
+    let first = read_or_stop!(not(parser, left));
+    let more = read_or_stop!(ands(parser, left), first);
     Ok(And { place, first, more })
 }
 
@@ -90,7 +90,7 @@ pub fn and_more(parser: &mut Parser<'_, '_>, left: u32) -> Result<Not, Stop>
         (λ part. read_and_more (readers left) parser.old ≡ Ok (part, parser.new)) }
     ensures err { IfErr result (IsStop (read_and_more (readers left) parser.old) parser.new) }
 {
-    parser.expect(Symbol::And)?;
+    read_or_stop!(parser.expect(Symbol::And));
     not(parser, left)
 }
 
@@ -104,7 +104,7 @@ pub fn not(parser: &mut Parser<'_, '_>, left: u32) -> Result<Not, Stop>
     if parser.is(Symbol::Not) {
         negation(parser, left)
     } else {
-        Ok(Not::Pred(pred(parser, left)?))
+        Ok(Not::Pred(read_or_stop!(pred(parser, left))))
     }
 }
 
@@ -115,8 +115,8 @@ pub fn negation(parser: &mut Parser<'_, '_>, left: u32) -> Result<Not, Stop>
         (λ part. read_negation (readers left) parser.old ≡ Ok (part, parser.new)) }
     ensures err { IfErr result (IsStop (read_negation (readers left) parser.old) parser.new) }
 {
-    let word = parser.open(Symbol::Not, left)?;
-    let inner = inner_not(parser, left)?;
+    let word = read_or_stop!(parser.open(Symbol::Not, left));
+    let inner = read_or_stop!(inner_not(parser, left));
     Ok(Not::Negation(word.place(), inner))
 }
 
@@ -128,7 +128,7 @@ pub fn inner_not(parser: &mut Parser<'_, '_>, left: u32) -> Result<Boxed<Not>, S
     ensures ok { IfOk result (λ inner. (readers left).not parser.old ≡ Ok (inner, parser.new)) }
     ensures err { IfErr result (IsStop ((readers left).not parser.old) parser.new) }
 {
-    let inner = not(parser, left - 1)?;
+    let inner = read_or_stop!(not(parser, left - 1));
     Ok(Boxed::new(parser.alloc(), inner)?)
 }
 
@@ -140,6 +140,6 @@ pub fn inner_expr(parser: &mut Parser<'_, '_>, left: u32) -> Result<Boxed<Expr>,
     ensures ok { IfOk result (λ inner. (readers left).expr parser.old ≡ Ok (inner, parser.new)) }
     ensures err { IfErr result (IsStop ((readers left).expr parser.old) parser.new) }
 {
-    let inner = expr(parser, left - 1)?;
+    let inner = read_or_stop!(expr(parser, left - 1));
     Ok(Boxed::new(parser.alloc(), inner)?)
 }

@@ -7,7 +7,7 @@ ghost use Rattle.query_grammar.specs.Lists.{one};
 ghost use Rattle.query_grammar.specs.Reading.{readers, args_symbols, read_next, read_others, read_primary, read_number, read_text, read_null, read_column_or_call, read_call_args, read_arguments, read_nested};
 
 use crate::cases::{case, cast};
-use crate::expressions::inner_expr;
+use crate::expressions::{expr, inner_expr};
 use grammar_rules::Stop;
 use query_cursor::{Parser, number_of, text_content};
 use query_tokens::Symbol;
@@ -44,7 +44,7 @@ pub fn number(parser: &mut Parser<'_, '_>) -> Result<Primary, Stop>
     ensures ok { IfOk result (λ primary. read_number parser.old ≡ Ok (primary, parser.new)) }
     ensures err { IfErr result (IsStop (read_number parser.old) parser.new) }
 {
-    let lexeme = parser.expect(Symbol::Number)?;
+    let lexeme = read_or_stop!(parser.expect(Symbol::Number));
     Ok(Primary::Number(lexeme.place(), number_of(lexeme.bytes())))
 }
 
@@ -53,9 +53,11 @@ pub fn text(parser: &mut Parser<'_, '_>) -> Result<Primary, Stop>
     ensures ok { IfOk result (λ primary. read_text parser.old ≡ Ok (primary, parser.new)) }
     ensures err { IfErr result (IsStop (read_text parser.old) parser.new) }
 {
-    let lexeme = parser.expect(Symbol::Text)?;
-    let text = text_content(parser.alloc(), lexeme.bytes())?;
-    Ok(Primary::Text(lexeme.place(), text))
+    let lexeme = read_or_stop!(parser.expect(Symbol::Text));
+    match text_content(parser.alloc(), lexeme.bytes()) {
+        Ok(text) => Ok(Primary::Text(lexeme.place(), text)),
+        Err(_) => Err(Stop::Memory),
+    }
 }
 
 #[tactic(auto, unfolding(query_grammar::specs::Reading::read_null))]
@@ -63,7 +65,7 @@ pub fn null(parser: &mut Parser<'_, '_>) -> Result<Primary, Stop>
     ensures ok { IfOk result (λ primary. read_null parser.old ≡ Ok (primary, parser.new)) }
     ensures err { IfErr result (IsStop (read_null parser.old) parser.new) }
 {
-    let lexeme = parser.expect(Symbol::Null)?;
+    let lexeme = read_or_stop!(parser.expect(Symbol::Null));
     Ok(Primary::Null(lexeme.place()))
 }
 
@@ -75,9 +77,9 @@ pub fn column_or_call(parser: &mut Parser<'_, '_>, left: u32) -> Result<Primary,
         (λ primary. read_column_or_call (readers left) parser.old ≡ Ok (primary, parser.new)) }
     ensures err { IfErr result (IsStop (read_column_or_call (readers left) parser.old) parser.new) }
 {
-    let path = parser.path()?;
+    let path = read_or_stop!(parser.path());
     if parser.is(Symbol::Open) {
-        let args = call_args(parser, left)?;
+        let args = read_or_stop!(call_args(parser, left), path);
         Ok(Primary::Call(Call::Function(path.place, path, args)))
     } else {
         Ok(Primary::Column(path))
@@ -149,14 +151,15 @@ pub fn more_exprs(parser: &mut Parser<'_, '_>, left: u32) -> Result<Items<Expr>,
 }
 
 #[cycle(reading)]
+#[tactic(auto, using(query_grammar::proofs::InnerReaders::inner_expr))]
 pub fn next_expr(parser: &mut Parser<'_, '_>, left: u32) -> Result<Expr, Stop>
     requires { 0 < left }
     ensures ok { IfOk result
         (λ part. read_next (readers left).expr parser.old ≡ Ok (part, parser.new)) }
     ensures err { IfErr result (IsStop (read_next (readers left).expr parser.old) parser.new) }
 {
-    parser.expect(Symbol::Comma)?;
-    Ok(inner_expr(parser, left)?.into_inner())
+    read_or_stop!(parser.expect(Symbol::Comma));
+    expr(parser, left - 1)
 }
 
 /// `"(" expr ")"`
@@ -167,8 +170,8 @@ pub fn nested(parser: &mut Parser<'_, '_>, left: u32) -> Result<Primary, Stop>
         (λ primary. read_nested (readers left) parser.old ≡ Ok (primary, parser.new)) }
     ensures err { IfErr result (IsStop (read_nested (readers left) parser.old) parser.new) }
 {
-    let sign = parser.open(Symbol::Open, left)?;
-    let inner = inner_expr(parser, left)?;
-    parser.expect(Symbol::Close)?;
+    let sign = read_or_stop!(parser.open(Symbol::Open, left));
+    let inner = read_or_stop!(inner_expr(parser, left));
+    read_or_stop!(parser.expect(Symbol::Close));
     Ok(Primary::Nested(sign.place(), inner))
 }

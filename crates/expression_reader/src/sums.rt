@@ -21,8 +21,8 @@ pub fn sum(parser: &mut Parser<'_, '_>, left: u32) -> Result<Sum, Stop>
     ensures err { IfErr result (IsStop (read_sum (readers left) parser.old) parser.new) }
 {
     let place = parser.place();
-    let first = prod(parser, left)?;
-    let more = sums(parser, left)?;
+    let first = read_or_stop!(prod(parser, left));
+    let more = read_or_stop!(sums(parser, left), first);
     Ok(Sum { place, first, more })
 }
 
@@ -48,8 +48,8 @@ pub fn sum_more(parser: &mut Parser<'_, '_>, left: u32) -> Result<SumMore, Stop>
         (λ part. read_sum_more (readers left) parser.old ≡ Ok (part, parser.new)) }
     ensures err { IfErr result (IsStop (read_sum_more (readers left) parser.old) parser.new) }
 {
-    let sign = parser.take(&[Symbol::Plus, Symbol::Minus])?;
-    let prod = prod(parser, left)?;
+    let sign = read_or_stop!(parser.take(&[Symbol::Plus, Symbol::Minus]));
+    let prod = read_or_stop!(prod(parser, left));
     Ok(SumMore {
         place: sign.place(),
         sign: sum_sign(sign),
@@ -65,8 +65,8 @@ pub fn prod(parser: &mut Parser<'_, '_>, left: u32) -> Result<Prod, Stop>
     ensures err { IfErr result (IsStop (read_prod (readers left) parser.old) parser.new) }
 {
     let place = parser.place();
-    let first = unary(parser, left)?;
-    let more = prods(parser, left)?;
+    let first = read_or_stop!(unary(parser, left));
+    let more = read_or_stop!(prods(parser, left), first);
     Ok(Prod { place, first, more })
 }
 
@@ -93,8 +93,8 @@ pub fn prod_more(parser: &mut Parser<'_, '_>, left: u32) -> Result<ProdMore, Sto
         (λ part. read_prod_more (readers left) parser.old ≡ Ok (part, parser.new)) }
     ensures err { IfErr result (IsStop (read_prod_more (readers left) parser.old) parser.new) }
 {
-    let sign = parser.take(&[Symbol::Star, Symbol::Slash, Symbol::Percent])?;
-    let unary = unary(parser, left)?;
+    let sign = read_or_stop!(parser.take(&[Symbol::Star, Symbol::Slash, Symbol::Percent]));
+    let unary = read_or_stop!(unary(parser, left));
     Ok(ProdMore {
         place: sign.place(),
         sign: prod_sign(sign),
@@ -113,7 +113,7 @@ pub fn unary(parser: &mut Parser<'_, '_>, left: u32) -> Result<Unary, Stop>
     if parser.is(Symbol::Minus) {
         minus(parser, left)
     } else {
-        Ok(Unary::Primary(primary(parser, left)?))
+        Ok(Unary::Primary(read_or_stop!(primary(parser, left))))
     }
 }
 
@@ -124,8 +124,8 @@ pub fn minus(parser: &mut Parser<'_, '_>, left: u32) -> Result<Unary, Stop>
         (λ unary. read_minus (readers left) parser.old ≡ Ok (unary, parser.new)) }
     ensures err { IfErr result (IsStop (read_minus (readers left) parser.old) parser.new) }
 {
-    let sign = parser.open(Symbol::Minus, left)?;
-    let inner = inner_unary(parser, left)?;
+    let sign = read_or_stop!(parser.open(Symbol::Minus, left));
+    let inner = read_or_stop!(inner_unary(parser, left));
     Ok(Unary::Minus(sign.place(), inner))
 }
 
@@ -137,6 +137,6 @@ pub fn inner_unary(parser: &mut Parser<'_, '_>, left: u32) -> Result<Boxed<Unary
     ensures ok { IfOk result (λ inner. (readers left).unary parser.old ≡ Ok (inner, parser.new)) }
     ensures err { IfErr result (IsStop ((readers left).unary parser.old) parser.new) }
 {
-    let inner = unary(parser, left - 1)?;
+    let inner = read_or_stop!(unary(parser, left - 1));
     Ok(Boxed::new(parser.alloc(), inner)?)
 }
