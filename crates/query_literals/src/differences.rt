@@ -3,13 +3,12 @@
 ghost use Rattle.std.specs.Prelude.{◌≡◌};
 ghost use Rattle.std.specs.Option.{option_copied};
 ghost use Rattle.std.specs.Str.{bytes_eq};
-ghost use Rattle.tick_time.specs.Unit.{is_name};
 ghost use Rattle.query_literals.specs.Differences as spec;
 
 use crate::bare::{bare_primary, primary_of, unary_of_sum};
 use crate::literals::{WholeLiteral, literal_of, unit_in};
 use query_tree::{Args, Call, Expr, Name, Not, Path, Pred, PredRest, Primary, Sum};
-use tick_time::Unit;
+use tick_time::{Unit, is_name};
 
 /// The times of two sources, of which one is taken off the other.
 #[derive(Clone, Copy)]
@@ -29,12 +28,6 @@ pub struct Difference {
     pub low: WholeLiteral,
     /// At most so many.
     pub high: WholeLiteral,
-}
-
-fn is_name(name: &[u8], word: &[u8]) -> bool
-    ensures { result ≡ is_name name.now word.now }
-{
-    word.eq_ignore_ascii_case(name)
 }
 
 fn name_of_path(path: &Path) -> Option<&Name>

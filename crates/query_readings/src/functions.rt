@@ -1,14 +1,13 @@
 //! The functions that names call.
 
 ghost use Rattle.std.specs.Prelude.{◌≡◌};
-ghost use Rattle.tick_time.specs.Unit.{is_name};
 ghost use Rattle.query_readings.specs.Functions as spec;
 
 use crate::reading::Face;
 use event_value::{AggKind, Op};
 use query_forms::Form;
 use query_tree::{Name, Path};
-use tick_time::{Part, part_of};
+use tick_time::{Part, is_name, part_of};
 
 /// A function whose first argument is the word of a part.
 #[derive(Clone, Copy)]
@@ -33,12 +32,6 @@ pub enum Function {
     Time,
     /// None that there is.
     Unknown,
-}
-
-fn is_name(name: &[u8], word: &[u8]) -> bool
-    ensures { result ≡ is_name name.now word.now }
-{
-    word.eq_ignore_ascii_case(name)
 }
 
 #[tactic(auto, unfolding(crate::specs::Functions::is_window_name))]

@@ -1,7 +1,6 @@
 //! Parts of expressions that hold no further ones, or their readings.
 
 ghost use Rattle.std.specs.Prelude.{◌≡◌, IfOk};
-ghost use Rattle.tick_time.specs.Unit.{is_name};
 ghost use Rattle.query_senses.specs.Parts as spec;
 
 use crate::calls::{Given, Mark};
@@ -10,6 +9,7 @@ use query_forms::{Form, Rule, Sense, Valued, refuse};
 use query_readings::{Face, Outcome, Reading, Rest, Scope, formed, formed_of_one, refused_reading};
 use query_tree::{Number, TypeName};
 use std::alloc::Global;
+use tick_time::is_name;
 
 // How many items IN may have.
 const MAX_IN_ITEMS: usize = 64;
@@ -62,12 +62,6 @@ pub fn mark_of(distinct: bool) -> Mark
     } else {
         Mark::Plain
     }
-}
-
-fn is_name(name: &[u8], word: &[u8]) -> bool
-    ensures { result ≡ is_name name.now word.now }
-{
-    word.eq_ignore_ascii_case(name)
 }
 
 #[tactic(auto, unfolding(crate::specs::Parts::kind_named))]

@@ -1,14 +1,13 @@
 //! What a window's arguments are written as.
 
 ghost use Rattle.std.specs.Prelude.{◌≡◌, IfOk};
-ghost use Rattle.tick_time.specs.Unit.{is_name};
 ghost use Rattle.query_windows.specs.Arguments as spec;
 
 use event_value::{Memory, Seq};
 use query_literals::{bare_primary, literal_in, unit_in, unit_of_path, whole_in, whole_of_number};
 use query_tree::{Args, Call, Expr, Path, Primary};
 use std::alloc::Global;
-use tick_time::Unit;
+use tick_time::{Unit, is_name};
 
 /// What a window's argument is written as.
 #[derive(Clone, Copy)]
@@ -25,12 +24,6 @@ pub enum Argument {
     Offset(u32),
     /// Anything else.
     Other,
-}
-
-fn is_name(name: &[u8], word: &[u8]) -> bool
-    ensures { result ≡ is_name name.now word.now }
-{
-    word.eq_ignore_ascii_case(name)
 }
 
 // `Duration` or `Hop` of a unit and a whole number, or `Offset` of a unit and a number.

@@ -1,7 +1,6 @@
 //! Windows: calls that stand as groups, with their lengths.
 
 ghost use Rattle.std.specs.Prelude.{◌≡◌, IfOk};
-ghost use Rattle.tick_time.specs.Unit.{is_name};
 ghost use Rattle.query_windows.specs.Windows as spec;
 
 use crate::arguments::{Argument, arguments_in};
@@ -12,7 +11,7 @@ use event_value::Memory;
 use query_forms::{Checked, Rule, refuse};
 use query_tree::Args;
 use std::alloc::Global;
-use tick_time::{Span, span_of};
+use tick_time::{Span, is_name, span_of};
 
 // How many hops a window may hold.
 const MAX_HOPS: i64 = 1_000;
@@ -38,12 +37,6 @@ pub enum WindowName {
     Sliding,
     Session,
     Snapshot,
-}
-
-fn is_name(name: &[u8], word: &[u8]) -> bool
-    ensures { result ≡ is_name name.now word.now }
-{
-    word.eq_ignore_ascii_case(name)
 }
 
 /// The window that a name names.

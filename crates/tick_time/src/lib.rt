@@ -29,7 +29,7 @@ pub use date_arithmetic::{date_add, date_diff, date_part};
 pub use laws::{dates_have_their_numbers, reading_is_the_grammar, written_moments_are_read};
 pub use memory::Memory;
 pub use moment::{END, LIMIT, Moment};
-pub use names::{part_of, unit_of};
+pub use names::{is_name, part_of, unit_of};
 pub use part::Part;
 pub use read::read_moment;
 pub use span::{Span, span_of};

@@ -7,8 +7,8 @@ ghost use Rattle.tick_time.specs.Part.{part_of_unit, is_year_name, is_month_name
 use crate::part::Part;
 use crate::unit::Unit;
 
-// Whether a word is a name, but for the case of ASCII letters.
-fn is_name(name: &[u8], word: &[u8]) -> bool
+/// Whether a word is a name, but for the case of ASCII letters.
+pub fn is_name(name: &[u8], word: &[u8]) -> bool
     ensures { result ≡ is_name name.now word.now }
 {
     word.eq_ignore_ascii_case(name)
