@@ -7,7 +7,7 @@ ghost use Rattle.query_grammar.specs.Lists.{one};
 ghost use Rattle.query_grammar.specs.Reading.{readers, expr_symbols, read_cast, read_case, read_when, read_whens, read_case_end, read_else};
 
 use crate::expressions::inner_expr;
-use grammar_rules::Stop;
+use grammar_rules::{Stop, read_or_stop};
 use query_cursor::{Parser, cast_word};
 use query_tokens::Symbol;
 use query_tree::{Call, Case, Expr, Primary, When};

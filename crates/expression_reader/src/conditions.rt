@@ -9,7 +9,7 @@ ghost use Rattle.query_grammar.specs.Reading.{readers, rest_symbols, negatable_r
 use crate::expressions::inner_expr;
 use crate::primaries::more_exprs;
 use crate::sums::sum;
-use grammar_rules::Stop;
+use grammar_rules::{Stop, read_or_stop};
 use query_cursor::{Parser, rel_of};
 use query_tokens::Symbol;
 use query_tree::{Pred, PredRest};

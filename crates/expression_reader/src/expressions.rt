@@ -7,7 +7,7 @@ ghost use Rattle.query_grammar.specs.Lists.{one};
 ghost use Rattle.query_grammar.specs.Reading.{readers, read_expr, read_or_more, read_conjunction, read_and_more, read_not, read_negation};
 
 use crate::conditions::pred;
-use grammar_rules::Stop;
+use grammar_rules::{Stop, read_or_stop};
 use query_cursor::Parser;
 use query_tokens::Symbol;
 use query_tree::{And, Expr, Not};

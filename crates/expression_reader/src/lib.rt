@@ -5,22 +5,6 @@
 //! It reads no statements: query_parse does.
 #![tactic(auto)]
 
-/// What was read, or a way out that stops where reading stopped; what is named behind it was read
-/// before and is given up then. It does what `?` does, but matches what was read and drops by a
-/// call: a `?` is a call for the type of the node, and a drop in place takes the node apart, which
-/// the proof writes out anew at each of them.
-macro_rules! read_or_stop {
-    ($read:expr $(, $before:ident)?) => {
-        match $read {
-            Ok(read) => read,
-            Err(stop) => {
-                $(drop($before);)?
-                return Err(stop);
-            }
-        }
-    };
-}
-
 mod cases;
 mod conditions;
 mod expressions;

@@ -8,7 +8,7 @@ ghost use Rattle.query_grammar.specs.Reading.{readers, args_symbols, read_next, 
 
 use crate::cases::{case, cast};
 use crate::expressions::{expr, inner_expr};
-use grammar_rules::Stop;
+use grammar_rules::{Stop, read_or_stop};
 use query_cursor::{Parser, number_of, text_content};
 use query_tokens::Symbol;
 use query_tree::{Args, Call, Expr, Primary};

@@ -7,7 +7,7 @@ ghost use Rattle.query_grammar.specs.ExpressionGrammar.{sum_symbols, prod_symbol
 ghost use Rattle.query_grammar.specs.Reading.{readers, read_sum, read_sum_more, read_prod, read_prod_more, read_unary, read_minus};
 
 use crate::primaries::primary;
-use grammar_rules::Stop;
+use grammar_rules::{Stop, read_or_stop};
 use query_cursor::{Parser, prod_sign, sum_sign};
 use query_tokens::Symbol;
 use query_tree::{Prod, ProdMore, Sum, SumMore, Unary};

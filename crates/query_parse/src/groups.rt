@@ -9,7 +9,7 @@ ghost use Rattle.query_grammar.specs.Reading.{read_next, read_others, read_group
 
 use crate::sources::whole_expr;
 use event_value::Seq;
-use grammar_rules::Stop;
+use grammar_rules::{Stop, read_or_stop};
 use query_cursor::Parser;
 use query_tokens::Symbol;
 use query_tree::{Group, GroupBy, Partition};
@@ -27,7 +27,7 @@ pub fn perhaps_group_by(
         parser.new) }
 {
     if parser.is(Symbol::Group) {
-        Ok(Some(group_by(parser, nesting)?))
+        Ok(Some(read_or_stop!(group_by(parser, nesting))))
     } else {
         Ok(None)
     }
@@ -40,10 +40,10 @@ pub fn group_by(parser: &mut Parser<'_, '_>, nesting: u32) -> Result<Boxed<Group
         (λ groups. read_group_by (limits_of nesting) parser.old ≡ Ok (groups, parser.new)) }
     ensures err { IfErr result (IsStop (read_group_by (limits_of nesting) parser.old) parser.new) }
 {
-    let word = parser.expect(Symbol::Group)?;
-    parser.expect(Symbol::By)?;
-    let first = group(parser, nesting)?;
-    let more = more_groups(parser, nesting)?;
+    let word = read_or_stop!(parser.expect(Symbol::Group));
+    read_or_stop!(parser.expect(Symbol::By));
+    let first = read_or_stop!(group(parser, nesting));
+    let more = read_or_stop!(more_groups(parser, nesting));
     let groups = GroupBy {
         place: word.place(),
         first: first.into_inner(),
@@ -60,8 +60,8 @@ pub fn group(parser: &mut Parser<'_, '_>, nesting: u32) -> Result<Boxed<Group>, 
     ensures err { IfErr result (IsStop (read_group (limits_of nesting) parser.old) parser.new) }
 {
     let place = parser.place();
-    let expr = whole_expr(parser, nesting)?;
-    let partition = perhaps_partition(parser, nesting)?;
+    let expr = read_or_stop!(whole_expr(parser, nesting));
+    let partition = read_or_stop!(perhaps_partition(parser, nesting));
     let group = Group {
         place,
         expr: expr.into_inner(),
@@ -89,8 +89,8 @@ pub fn next_group(parser: &mut Parser<'_, '_>, nesting: u32) -> Result<Group, St
     ensures err { IfErr result
         (IsStop (read_next (read_group (limits_of nesting)) parser.old) parser.new) }
 {
-    parser.expect(Symbol::Comma)?;
-    Ok(group(parser, nesting)?.into_inner())
+    read_or_stop!(parser.expect(Symbol::Comma));
+    Ok(read_or_stop!(group(parser, nesting)).into_inner())
 }
 
 pub fn perhaps_partition(
@@ -105,7 +105,7 @@ pub fn perhaps_partition(
         parser.new) }
 {
     if parser.is(Symbol::Over) {
-        Ok(Some(partition(parser, nesting)?))
+        Ok(Some(read_or_stop!(partition(parser, nesting))))
     } else {
         Ok(None)
     }
@@ -118,13 +118,13 @@ pub fn partition(parser: &mut Parser<'_, '_>, nesting: u32) -> Result<Partition,
         (λ partition. read_partition (limits_of nesting) parser.old ≡ Ok (partition, parser.new)) }
     ensures err { IfErr result (IsStop (read_partition (limits_of nesting) parser.old) parser.new) }
 {
-    let word = parser.expect(Symbol::Over)?;
-    parser.open(Symbol::Open, nesting)?;
-    parser.expect(Symbol::Partition)?;
-    parser.expect(Symbol::By)?;
-    let first = parser.path()?;
-    let more = parser.more_paths()?;
-    parser.expect(Symbol::Close)?;
+    let word = read_or_stop!(parser.expect(Symbol::Over));
+    read_or_stop!(parser.open(Symbol::Open, nesting));
+    read_or_stop!(parser.expect(Symbol::Partition));
+    read_or_stop!(parser.expect(Symbol::By));
+    let first = read_or_stop!(parser.path());
+    let more = read_or_stop!(parser.more_paths());
+    read_or_stop!(parser.expect(Symbol::Close));
     Ok(Partition {
         place: word.place(),
         first,

@@ -10,7 +10,7 @@ ghost use Rattle.query_grammar.specs.Reading.{read_next, read_others, read_selec
 use crate::groups::perhaps_group_by;
 use crate::sources::{joins, perhaps_alias, source, whole_expr};
 use event_value::Seq;
-use grammar_rules::Stop;
+use grammar_rules::{Stop, read_or_stop};
 use query_cursor::Parser;
 use query_tokens::Symbol;
 use query_tree::{Expr, Having, Item, Select, SelectItems, Tail};
@@ -23,9 +23,9 @@ pub fn select(parser: &mut Parser<'_, '_>, nesting: u32) -> Result<Boxed<Select>
         (λ select. read_select (limits_of nesting) parser.old ≡ Ok (select, parser.new)) }
     ensures err { IfErr result (IsStop (read_select (limits_of nesting) parser.old) parser.new) }
 {
-    let word = parser.expect(Symbol::Select)?;
-    let items = select_items(parser, nesting)?;
-    let tail = tail(parser, nesting)?;
+    let word = read_or_stop!(parser.expect(Symbol::Select));
+    let items = read_or_stop!(select_items(parser, nesting));
+    let tail = read_or_stop!(tail(parser, nesting));
     let select = Select {
         place: word.place(),
         items: items.into_inner(),
@@ -44,11 +44,11 @@ pub fn select_items(parser: &mut Parser<'_, '_>, nesting: u32) -> Result<Boxed<S
 {
     let place = parser.place();
     if parser.is(Symbol::Star) {
-        parser.expect(Symbol::Star)?;
+        read_or_stop!(parser.expect(Symbol::Star));
         return Ok(Boxed::new(parser.alloc(), SelectItems::Star(place))?);
     }
-    let first = item(parser, nesting)?;
-    let more = more_items(parser, nesting)?;
+    let first = read_or_stop!(item(parser, nesting));
+    let more = read_or_stop!(more_items(parser, nesting));
     let items = SelectItems::Listed(place, first.into_inner(), more);
     Ok(Boxed::new(parser.alloc(), items)?)
 }
@@ -61,8 +61,8 @@ pub fn item(parser: &mut Parser<'_, '_>, nesting: u32) -> Result<Boxed<Item>, St
     ensures err { IfErr result (IsStop (read_item (limits_of nesting) parser.old) parser.new) }
 {
     let place = parser.place();
-    let expr = whole_expr(parser, nesting)?;
-    let alias = perhaps_alias(parser)?;
+    let expr = read_or_stop!(whole_expr(parser, nesting));
+    let alias = read_or_stop!(perhaps_alias(parser));
     let item = Item {
         place,
         expr: expr.into_inner(),
@@ -90,8 +90,8 @@ pub fn next_item(parser: &mut Parser<'_, '_>, nesting: u32) -> Result<Item, Stop
     ensures err { IfErr result
         (IsStop (read_next (read_item (limits_of nesting)) parser.old) parser.new) }
 {
-    parser.expect(Symbol::Comma)?;
-    Ok(item(parser, nesting)?.into_inner())
+    read_or_stop!(parser.expect(Symbol::Comma));
+    Ok(read_or_stop!(item(parser, nesting)).into_inner())
 }
 
 /// A part that may be absent, without its box.
@@ -111,12 +111,12 @@ pub fn tail(parser: &mut Parser<'_, '_>, nesting: u32) -> Result<Boxed<Tail>, St
         (λ tail. read_tail (limits_of nesting) parser.old ≡ Ok (tail, parser.new)) }
     ensures err { IfErr result (IsStop (read_tail (limits_of nesting) parser.old) parser.new) }
 {
-    let word = parser.expect(Symbol::From)?;
-    let source = source(parser, nesting)?;
-    let joins = joins(parser, nesting)?;
-    let condition = perhaps_condition(parser, nesting)?;
-    let groups = perhaps_group_by(parser, nesting)?;
-    let having = perhaps_having(parser, nesting)?;
+    let word = read_or_stop!(parser.expect(Symbol::From));
+    let source = read_or_stop!(source(parser, nesting));
+    let joins = read_or_stop!(joins(parser, nesting));
+    let condition = read_or_stop!(perhaps_condition(parser, nesting));
+    let groups = read_or_stop!(perhaps_group_by(parser, nesting));
+    let having = read_or_stop!(perhaps_having(parser, nesting));
     let tail = Tail {
         place: word.place(),
         source: source.into_inner(),
@@ -135,7 +135,7 @@ pub fn condition(parser: &mut Parser<'_, '_>, nesting: u32) -> Result<Boxed<Expr
         (λ condition. read_condition (limits_of nesting) parser.old ≡ Ok (condition, parser.new)) }
     ensures err { IfErr result (IsStop (read_condition (limits_of nesting) parser.old) parser.new) }
 {
-    parser.expect(Symbol::Where)?;
+    read_or_stop!(parser.expect(Symbol::Where));
     whole_expr(parser, nesting)
 }
 
@@ -151,7 +151,7 @@ pub fn perhaps_condition(
         parser.new) }
 {
     if parser.is(Symbol::Where) {
-        Ok(Some(condition(parser, nesting)?))
+        Ok(Some(read_or_stop!(condition(parser, nesting))))
     } else {
         Ok(None)
     }
@@ -164,8 +164,8 @@ pub fn having(parser: &mut Parser<'_, '_>, nesting: u32) -> Result<Having, Stop>
         (λ having. read_having (limits_of nesting) parser.old ≡ Ok (having, parser.new)) }
     ensures err { IfErr result (IsStop (read_having (limits_of nesting) parser.old) parser.new) }
 {
-    let word = parser.expect(Symbol::Having)?;
-    let condition = whole_expr(parser, nesting)?;
+    let word = read_or_stop!(parser.expect(Symbol::Having));
+    let condition = read_or_stop!(whole_expr(parser, nesting));
     Ok(Having {
         place: word.place(),
         condition: condition.into_inner(),
@@ -181,7 +181,7 @@ pub fn perhaps_having(parser: &mut Parser<'_, '_>, nesting: u32) -> Result<Optio
         parser.new) }
 {
     if parser.is(Symbol::Having) {
-        Ok(Some(having(parser, nesting)?))
+        Ok(Some(read_or_stop!(having(parser, nesting))))
     } else {
         Ok(None)
     }

@@ -9,7 +9,7 @@ ghost use Rattle.query_grammar.specs.Reading.{alias_symbols, side_symbols, read_
 
 use event_value::Seq;
 use expression_reader::expr;
-use grammar_rules::Stop;
+use grammar_rules::{Stop, read_or_stop};
 use query_cursor::Parser;
 use query_tokens::Symbol;
 use query_tree::{Alias, Expr, Join, Over, Side, Source, Stamp};
@@ -30,7 +30,7 @@ fn boxed_expr(parser: &mut Parser<'_, '_>, nesting: u32) -> Result<Boxed<Expr>, 
     ensures ok { IfOk result (λ expr. read_expr nesting parser.old ≡ Ok (expr, parser.new)) }
     ensures err { IfErr result (IsStop (read_expr nesting parser.old) parser.new) }
 {
-    let expr = expr(parser, nesting)?;
+    let expr = read_or_stop!(expr(parser, nesting));
     Ok(Boxed::new(parser.alloc(), expr)?)
 }
 
@@ -62,7 +62,7 @@ pub fn alias(parser: &mut Parser<'_, '_>) -> Result<Alias, Stop>
 {
     let place = parser.place();
     let written = parser.flag(Symbol::As);
-    let name = parser.name()?;
+    let name = read_or_stop!(parser.name());
     Ok(Alias {
         place,
         written,
@@ -77,7 +77,7 @@ pub fn perhaps_alias(parser: &mut Parser<'_, '_>) -> Result<Option<Alias>, Stop>
         (IsStop (read_perhaps alias_symbols read_alias parser.old) parser.new) }
 {
     if parser.begins_alias() {
-        Ok(Some(alias(parser)?))
+        Ok(Some(read_or_stop!(alias(parser))))
     } else {
         Ok(None)
     }
@@ -89,9 +89,9 @@ pub fn over(parser: &mut Parser<'_, '_>) -> Result<Over, Stop>
     ensures ok { IfOk result (λ over. read_over parser.old ≡ Ok (over, parser.new)) }
     ensures err { IfErr result (IsStop (read_over parser.old) parser.new) }
 {
-    let word = parser.expect(Symbol::Over)?;
-    let first = parser.path()?;
-    let more = parser.more_paths()?;
+    let word = read_or_stop!(parser.expect(Symbol::Over));
+    let first = read_or_stop!(parser.path());
+    let more = read_or_stop!(parser.more_paths());
     Ok(Over {
         place: word.place(),
         first,
@@ -106,7 +106,7 @@ pub fn perhaps_over(parser: &mut Parser<'_, '_>) -> Result<Option<Over>, Stop>
         (IsStop (read_perhaps (one symbol.Over) read_over parser.old) parser.new) }
 {
     if parser.is(Symbol::Over) {
-        Ok(Some(over(parser)?))
+        Ok(Some(read_or_stop!(over(parser))))
     } else {
         Ok(None)
     }
@@ -119,10 +119,10 @@ pub fn stamp(parser: &mut Parser<'_, '_>, nesting: u32) -> Result<Stamp, Stop>
         (λ stamp. read_stamp (limits_of nesting) parser.old ≡ Ok (stamp, parser.new)) }
     ensures err { IfErr result (IsStop (read_stamp (limits_of nesting) parser.old) parser.new) }
 {
-    let word = parser.expect(Symbol::Timestamp)?;
-    parser.expect(Symbol::By)?;
-    let expr = whole_expr(parser, nesting)?;
-    let over = perhaps_over(parser)?;
+    let word = read_or_stop!(parser.expect(Symbol::Timestamp));
+    read_or_stop!(parser.expect(Symbol::By));
+    let expr = read_or_stop!(whole_expr(parser, nesting));
+    let over = read_or_stop!(perhaps_over(parser));
     Ok(Stamp {
         place: word.place(),
         expr: expr.into_inner(),
@@ -139,7 +139,7 @@ pub fn perhaps_stamp(parser: &mut Parser<'_, '_>, nesting: u32) -> Result<Option
         parser.new) }
 {
     if parser.is(Symbol::Timestamp) {
-        Ok(Some(stamp(parser, nesting)?))
+        Ok(Some(read_or_stop!(stamp(parser, nesting))))
     } else {
         Ok(None)
     }
@@ -152,9 +152,9 @@ pub fn source(parser: &mut Parser<'_, '_>, nesting: u32) -> Result<Boxed<Source>
         (λ source. read_source (limits_of nesting) parser.old ≡ Ok (source, parser.new)) }
     ensures err { IfErr result (IsStop (read_source (limits_of nesting) parser.old) parser.new) }
 {
-    let name = parser.name()?;
-    let alias = perhaps_alias(parser)?;
-    let stamp = perhaps_stamp(parser, nesting)?;
+    let name = read_or_stop!(parser.name());
+    let alias = read_or_stop!(perhaps_alias(parser));
+    let stamp = read_or_stop!(perhaps_stamp(parser, nesting));
     let source = Source {
         place: name.place,
         name,
@@ -171,10 +171,10 @@ pub fn side(parser: &mut Parser<'_, '_>) -> Result<Side, Stop>
     ensures err { IfErr result (IsStop (read_side parser.old) parser.new) }
 {
     if parser.is(Symbol::Inner) {
-        let word = parser.expect(Symbol::Inner)?;
+        let word = read_or_stop!(parser.expect(Symbol::Inner));
         return Ok(Side::Inner(word.place()));
     }
-    let word = parser.expect(Symbol::Left)?;
+    let word = read_or_stop!(parser.expect(Symbol::Left));
     let outer = parser.flag(Symbol::Outer);
     Ok(Side::Left(word.place(), outer))
 }
@@ -186,7 +186,7 @@ pub fn perhaps_side(parser: &mut Parser<'_, '_>) -> Result<Option<Side>, Stop>
         (IsStop (read_perhaps side_symbols read_side parser.old) parser.new) }
 {
     if parser.begins_side() {
-        Ok(Some(side(parser)?))
+        Ok(Some(read_or_stop!(side(parser))))
     } else {
         Ok(None)
     }
@@ -200,10 +200,10 @@ pub fn join(parser: &mut Parser<'_, '_>, nesting: u32) -> Result<Join, Stop>
     ensures err { IfErr result (IsStop (read_join (limits_of nesting) parser.old) parser.new) }
 {
     let place = parser.place();
-    let side = perhaps_side(parser)?;
-    let word = parser.expect(Symbol::Join)?;
-    let source = source(parser, nesting)?;
-    let on = on(parser, nesting)?;
+    let side = read_or_stop!(perhaps_side(parser));
+    let word = read_or_stop!(parser.expect(Symbol::Join));
+    let source = read_or_stop!(source(parser, nesting));
+    let on = read_or_stop!(on(parser, nesting));
     Ok(Join {
         place,
         side,
@@ -219,7 +219,7 @@ pub fn on(parser: &mut Parser<'_, '_>, nesting: u32) -> Result<Boxed<Expr>, Stop
     ensures ok { IfOk result (λ on. read_on (limits_of nesting) parser.old ≡ Ok (on, parser.new)) }
     ensures err { IfErr result (IsStop (read_on (limits_of nesting) parser.old) parser.new) }
 {
-    parser.expect(Symbol::On)?;
+    read_or_stop!(parser.expect(Symbol::On));
     whole_expr(parser, nesting)
 }
 

@@ -10,7 +10,7 @@ ghost use Rattle.query_grammar.specs.Reading.{read_next, read_others, read_union
 
 use crate::selects::{select, select_items, tail, unboxed};
 use event_value::Seq;
-use grammar_rules::Stop;
+use grammar_rules::{Stop, read_or_stop};
 use query_cursor::Parser;
 use query_tokens::Symbol;
 use query_tree::{Def, MoreStmt, Script, Select, Stmt, Union, With};
@@ -37,8 +37,8 @@ pub fn union(parser: &mut Parser<'_, '_>, nesting: u32) -> Result<Boxed<Union>, 
         (λ union. read_union (limits_of nesting) parser.old ≡ Ok (union, parser.new)) }
     ensures err { IfErr result (IsStop (read_union (limits_of nesting) parser.old) parser.new) }
 {
-    let first = select(parser, nesting)?;
-    let more = unions(parser, nesting)?;
+    let first = read_or_stop!(select(parser, nesting));
+    let more = read_or_stop!(unions(parser, nesting));
     let union = Union {
         place: first.get().place,
         first: first.into_inner(),
@@ -67,8 +67,8 @@ pub fn union_more(parser: &mut Parser<'_, '_>, nesting: u32) -> Result<Select, S
     ensures err { IfErr result
         (IsStop (read_union_more (limits_of nesting) parser.old) parser.new) }
 {
-    parser.expect(Symbol::Union)?;
-    Ok(select(parser, nesting)?.into_inner())
+    read_or_stop!(parser.expect(Symbol::Union));
+    Ok(read_or_stop!(select(parser, nesting)).into_inner())
 }
 
 /// `name AS "(" union ")"`
@@ -78,11 +78,11 @@ pub fn def(parser: &mut Parser<'_, '_>, nesting: u32) -> Result<Boxed<Def>, Stop
         (λ def. read_def (limits_of nesting) parser.old ≡ Ok (def, parser.new)) }
     ensures err { IfErr result (IsStop (read_def (limits_of nesting) parser.old) parser.new) }
 {
-    let name = parser.name()?;
-    parser.expect(Symbol::As)?;
-    parser.open(Symbol::Open, nesting)?;
-    let union = union(parser, nesting - 1)?;
-    parser.expect(Symbol::Close)?;
+    let name = read_or_stop!(parser.name());
+    read_or_stop!(parser.expect(Symbol::As));
+    read_or_stop!(parser.open(Symbol::Open, nesting));
+    let union = read_or_stop!(union(parser, nesting - 1));
+    read_or_stop!(parser.expect(Symbol::Close));
     let def = Def {
         place: name.place,
         name,
@@ -110,8 +110,8 @@ pub fn next_def(parser: &mut Parser<'_, '_>, nesting: u32) -> Result<Def, Stop>
     ensures err { IfErr result
         (IsStop (read_next (read_def (limits_of nesting)) parser.old) parser.new) }
 {
-    parser.expect(Symbol::Comma)?;
-    Ok(def(parser, nesting)?.into_inner())
+    read_or_stop!(parser.expect(Symbol::Comma));
+    Ok(read_or_stop!(def(parser, nesting)).into_inner())
 }
 
 /// `WITH def {"," def}`
@@ -121,9 +121,9 @@ pub fn with(parser: &mut Parser<'_, '_>, nesting: u32) -> Result<Boxed<With>, St
         (λ with. read_with (limits_of nesting) parser.old ≡ Ok (with, parser.new)) }
     ensures err { IfErr result (IsStop (read_with (limits_of nesting) parser.old) parser.new) }
 {
-    let word = parser.expect(Symbol::With)?;
-    let first = def(parser, nesting)?;
-    let more = more_defs(parser, nesting)?;
+    let word = read_or_stop!(parser.expect(Symbol::With));
+    let first = read_or_stop!(def(parser, nesting));
+    let more = read_or_stop!(more_defs(parser, nesting));
     let with = With {
         place: word.place(),
         first: first.into_inner(),
@@ -141,7 +141,7 @@ pub fn perhaps_with(parser: &mut Parser<'_, '_>, nesting: u32) -> Result<Option<
         parser.new) }
 {
     if parser.is(Symbol::With) {
-        Ok(Some(with(parser, nesting)?))
+        Ok(Some(read_or_stop!(with(parser, nesting))))
     } else {
         Ok(None)
     }
@@ -154,12 +154,12 @@ pub fn stmt(parser: &mut Parser<'_, '_>, nesting: u32) -> Result<Boxed<Stmt>, St
         (λ stmt. read_stmt (limits_of nesting) parser.old ≡ Ok (stmt, parser.new)) }
     ensures err { IfErr result (IsStop (read_stmt (limits_of nesting) parser.old) parser.new) }
 {
-    let word = parser.expect(Symbol::Select)?;
-    let items = select_items(parser, nesting)?;
-    parser.expect(Symbol::Into)?;
-    let output = parser.name()?;
-    let tail = tail(parser, nesting)?;
-    let more = unions(parser, nesting)?;
+    let word = read_or_stop!(parser.expect(Symbol::Select));
+    let items = read_or_stop!(select_items(parser, nesting));
+    read_or_stop!(parser.expect(Symbol::Into));
+    let output = read_or_stop!(parser.name());
+    let tail = read_or_stop!(tail(parser, nesting));
+    let more = read_or_stop!(unions(parser, nesting));
     let stmt = Stmt {
         place: word.place(),
         items: items.into_inner(),
@@ -175,7 +175,7 @@ pub fn semicolon(parser: &mut Parser<'_, '_>) -> Result<u32, Stop>
     ensures ok { IfOk result (λ place. read_semicolon parser.old ≡ Ok (place, parser.new)) }
     ensures err { IfErr result (IsStop (read_semicolon parser.old) parser.new) }
 {
-    let sign = parser.expect(Symbol::Semicolon)?;
+    let sign = read_or_stop!(parser.expect(Symbol::Semicolon));
     Ok(sign.place())
 }
 
@@ -187,7 +187,7 @@ pub fn perhaps_semicolon(parser: &mut Parser<'_, '_>) -> Result<Option<u32>, Sto
         (IsStop (read_perhaps (one symbol.Semicolon) read_semicolon parser.old) parser.new) }
 {
     if parser.is(Symbol::Semicolon) {
-        Ok(Some(semicolon(parser)?))
+        Ok(Some(read_or_stop!(semicolon(parser))))
     } else {
         Ok(None)
     }
@@ -200,8 +200,8 @@ pub fn closed(parser: &mut Parser<'_, '_>, nesting: u32) -> Result<(Boxed<Stmt>,
         (λ closed. read_closed (limits_of nesting) parser.old ≡ Ok (closed, parser.new)) }
     ensures err { IfErr result (IsStop (read_closed (limits_of nesting) parser.old) parser.new) }
 {
-    let stmt = stmt(parser, nesting)?;
-    let semicolon = perhaps_semicolon(parser)?;
+    let stmt = read_or_stop!(stmt(parser, nesting));
+    let semicolon = read_or_stop!(perhaps_semicolon(parser));
     Ok((stmt, semicolon))
 }
 
@@ -235,9 +235,9 @@ pub fn statements(parser: &mut Parser<'_, '_>, nesting: u32) -> Result<Boxed<Scr
         (IsStop (read_statements (limits_of nesting) parser.old) parser.new) }
 {
     let place = parser.place();
-    let with = perhaps_with(parser, nesting)?;
-    let (first, semicolon) = closed(parser, nesting)?;
-    let (more, last) = more_stmts(parser, nesting, semicolon)?;
+    let with = read_or_stop!(perhaps_with(parser, nesting));
+    let (first, semicolon) = read_or_stop!(closed(parser, nesting));
+    let (more, last) = read_or_stop!(more_stmts(parser, nesting, semicolon));
     let script = Script {
         place,
         with: unboxed(with),
@@ -254,7 +254,7 @@ pub fn script(parser: &mut Parser<'_, '_>) -> Result<Boxed<Script>, Stop>
         (λ script. read_script query_limits parser.old ≡ Ok (script, parser.new)) }
     ensures err { IfErr result (IsStop (read_script query_limits parser.old) parser.new) }
 {
-    let script = statements(parser, MAX_NESTING)?;
-    parser.expect(Symbol::EndOfText)?;
+    let script = read_or_stop!(statements(parser, MAX_NESTING));
+    read_or_stop!(parser.expect(Symbol::EndOfText));
     Ok(script)
 }
