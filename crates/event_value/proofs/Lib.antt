@@ -1,3 +1,2 @@
 pub mod DerivedOrderLemmas
-pub mod NumberLemmas
 pub mod OrderLemmas

@@ -4,7 +4,7 @@ use crate::{Copies, Seq, Text};
 use tick_time::Memory;
 
 /// The kind of a column's values.
-#[derive(Clone, Copy, Debug, PartialEq, Eq)]
+#[derive(Clone, Copy, PartialEq, Eq)]
 pub enum Kind {
     /// Whole numbers of 64 bits, the type word `bigint`.
     Big,
@@ -25,7 +25,7 @@ impl Copies for Kind {
 }
 
 /// A declared column of a source.
-#[derive(Debug, Drop)]
+#[derive(Drop)]
 pub struct Column {
     /// The name in queries.
     pub name: Text,
@@ -49,7 +49,7 @@ impl Copies for Column {
 pub type Columns = Seq<Column>;
 
 /// The format of a source's files.
-#[derive(Clone, Copy, Debug, PartialEq, Eq)]
+#[derive(Clone, Copy, PartialEq, Eq)]
 pub enum Format {
     /// JSON, one text per line.
     Json,
@@ -57,6 +57,8 @@ pub enum Format {
     Csv(u8),
     /// The Avro object container file.
     Avro,
+    /// JSON, one text per line, with its decimal numbers by their digits.
+    JsonExact,
 }
 
 impl Copies for Format {

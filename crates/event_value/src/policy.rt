@@ -4,7 +4,7 @@ use crate::Copies;
 use tick_time::Memory;
 
 /// What is done with late and disordered records. Lengths are in ticks of 100 ns.
-#[derive(Clone, Copy, Debug, PartialEq, Eq)]
+#[derive(Clone, Copy, PartialEq, Eq)]
 pub struct Policy {
     /// How far a stamp may be behind the arrival of its record.
     pub late: i64,

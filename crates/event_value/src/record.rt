@@ -4,7 +4,7 @@ use crate::{Copies, Seq, Value};
 use tick_time::{Memory, Moment};
 
 /// Why a record is dropped.
-#[derive(Clone, Copy, Debug, PartialEq, Eq)]
+#[derive(Clone, Copy, PartialEq, Eq)]
 pub enum Rule {
     /// It isn't a record of its format.
     Syntax,
@@ -37,7 +37,7 @@ impl Copies for Rule {
 }
 
 /// An item of a file.
-#[derive(Debug, Drop)]
+#[derive(Drop)]
 pub enum Item {
     /// A record: when it was enqueued, and the values of the columns.
     Good {
@@ -63,7 +63,7 @@ impl Copies for Item {
 }
 
 /// A place in a partition: before the entry of this index in this segment, both counted from 0.
-#[derive(Clone, Copy, Debug, PartialEq, Eq)]
+#[derive(Clone, Copy, PartialEq, Eq)]
 pub struct Position {
     /// The number of the segment.
     pub segment: u32,
@@ -78,7 +78,7 @@ impl Copies for Position {
 }
 
 /// A dropped record: where it stood, and by which rule it was dropped.
-#[derive(Clone, Copy, Debug, PartialEq, Eq)]
+#[derive(Clone, Copy, PartialEq, Eq)]
 pub struct Dropped {
     /// The number of the stream in the inputs document.
     pub stream: u16,
@@ -99,7 +99,7 @@ impl Copies for Dropped {
 }
 
 /// A row with its time.
-#[derive(Debug, Drop)]
+#[derive(Drop)]
 pub struct Stamped {
     /// The time of the row.
     pub time: Moment,
@@ -117,7 +117,7 @@ impl Copies for Stamped {
 }
 
 /// A kept record: its time after the policies, where it stood, and its values.
-#[derive(Debug, Drop)]
+#[derive(Drop)]
 pub struct Event {
     /// The time after the policies.
     pub time: Moment,
@@ -139,6 +139,25 @@ impl Copies for Event {
             segment: self.segment,
             index: self.index,
             values: self.values.copy()?,
+        })
+    }
+}
+
+/// A substream of a partition, by its values of the OVER columns, and its mark: the time below which
+/// it keeps no record.
+#[derive(Drop)]
+pub struct KeyMark {
+    /// The values of the OVER columns, in order.
+    pub key: Seq<Value>,
+    /// The mark.
+    pub mark: Moment,
+}
+
+impl Copies for KeyMark {
+    fn copy(&self) -> Result<Self, Memory> {
+        Ok(KeyMark {
+            key: self.key.copy()?,
+            mark: self.mark,
         })
     }
 }

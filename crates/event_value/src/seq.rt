@@ -12,7 +12,7 @@ use std::marker::Model;
 use tick_time::Memory;
 
 /// A list that grows at its end. Contracts see it as the list of its items.
-#[derive(Debug, Drop)]
+#[derive(Drop)]
 pub struct Seq<T> {
     items: Vec<T>,
 }

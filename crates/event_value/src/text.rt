@@ -9,7 +9,7 @@ use tick_time::Memory;
 
 /// A text, as the bytes that it was read from. Contracts see it as the list of its bytes.
 /// Texts are ordered by their bytes.
-#[derive(Debug, Drop, PartialEq, Eq, PartialOrd, Ord)]
+#[derive(Drop, PartialEq, Eq, PartialOrd, Ord)]
 pub struct Text {
     bytes: Seq<u8>,
 }

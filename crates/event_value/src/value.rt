@@ -8,7 +8,7 @@ use std::cmp::Ordering;
 use tick_time::{Memory, Moment};
 
 /// A value of a column. The order of the variants is the order of values of different kinds.
-#[derive(Debug, Drop, PartialEq, Eq, PartialOrd, Ord)]
+#[derive(Drop, PartialEq, Eq, PartialOrd, Ord)]
 pub enum Value {
     /// No value.
     Null,
