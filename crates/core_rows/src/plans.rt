@@ -1,10 +1,10 @@
 //! Plans of steps as a table spells them.
 
-use event_value::{
-    AggKind, Aggregate, Cond, Expr, Memory, Output, Plan, Policy, Rel, Seq, Step, Text, Value,
-};
-use input_book::Inputs;
+use crate::parts::one;
+use event_value::{AggKind, Aggregate, Memory, Policy, Seq, Text, Value};
+use input_types::Inputs;
 use query_meaning::{ReadyPlan, ready_plan};
+use query_plan::{Cond, Expr, Output, Plan, Rel, Step};
 use std::alloc::Global;
 use tick_time::{Unit, span_of};
 
@@ -37,26 +37,15 @@ pub const GREATEST: Aggregate = Aggregate {
     column: Some(0),
 };
 
+/// Whether a column is greater than a number.
 fn above(place: u16, number: i64) -> Cond {
     Cond::Compare(Rel::Gt, Expr::Col(place), Expr::Lit(Value::Big(number)))
 }
 
-fn one_expr(alloc: Global, expr: Expr) -> Result<Seq<Expr>, Memory> {
-    let mut exprs = Seq::empty(alloc);
-    exprs.push(expr)?;
-    Ok(exprs)
-}
-
-fn one_aggregate(alloc: Global, aggregate: Aggregate) -> Result<Seq<Aggregate>, Memory> {
-    let mut aggs = Seq::empty(alloc);
-    aggs.push(aggregate)?;
-    Ok(aggs)
-}
-
-// A grid of a size and a hop in seconds; one that doesn't fit where these are too long.
+/// A grid of a size and a hop in seconds; one that doesn't fit where these are too long.
 fn grid(alloc: Global, spelt: (u16, i64, i64, u16, Aggregate)) -> Result<Step, Memory> {
     let (from, size, hop, keys, aggregate) = spelt;
-    let aggs = one_aggregate(alloc, aggregate)?;
+    let aggs = one(alloc, aggregate)?;
     let (Some(size), Some(hop)) = (span_of(Unit::Second, size), span_of(Unit::Second, hop)) else {
         return Ok(Step::Snapshot { from, keys, aggs });
     };
@@ -70,6 +59,7 @@ fn grid(alloc: Global, spelt: (u16, i64, i64, u16, Aggregate)) -> Result<Step, M
     })
 }
 
+/// The step that is spelt.
 fn step(alloc: Global, spelt: Spelt) -> Result<Step, Memory> {
     match spelt {
         Spelt::Source(index) => Ok(Step::Source { index }),
@@ -79,7 +69,7 @@ fn step(alloc: Global, spelt: Spelt) -> Result<Step, Memory> {
         }),
         Spelt::Column(from, place) => Ok(Step::Project {
             from,
-            exprs: one_expr(alloc, Expr::Col(place))?,
+            exprs: one(alloc, Expr::Col(place))?,
         }),
         Spelt::Union(first, second) => Ok(Step::Union { first, second }),
         Spelt::Grid(from, size, hop, keys, aggregate) => {
@@ -88,11 +78,12 @@ fn step(alloc: Global, spelt: Spelt) -> Result<Step, Memory> {
         Spelt::Snapshot(from, keys, aggregate) => Ok(Step::Snapshot {
             from,
             keys,
-            aggs: one_aggregate(alloc, aggregate)?,
+            aggs: one(alloc, aggregate)?,
         }),
     }
 }
 
+/// The steps that are spelt.
 fn steps(alloc: Global, spelt: &[Spelt]) -> Result<Seq<Step>, Memory> {
     let mut steps = Seq::empty(alloc);
     for one in spelt {
@@ -101,6 +92,7 @@ fn steps(alloc: Global, spelt: &[Spelt]) -> Result<Seq<Step>, Memory> {
     Ok(steps)
 }
 
+/// Outputs of the rows of these steps.
 fn outputs(alloc: Global, places: &[u16]) -> Result<Seq<Output>, Memory> {
     let mut outputs = Seq::empty(alloc);
     for place in places {

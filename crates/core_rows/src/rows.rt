@@ -3,12 +3,14 @@
 //! An event is written as its second, its device and its reading; the device is NULL where none
 //! is given. A row is written as its second and its values.
 
+mod many;
+
+use crate::parts::moment;
 use crate::plans::{COUNT, GREATEST, Spelt, plan};
 use event_value::{Memory, Seq, Stamped, Value};
 use query_meaning::Pipeline;
 use std::alloc::Global;
 use std::test::Fail;
-use tick_time::Moment;
 
 /// A second, a device, NULL where there is none, and a reading.
 type Event = (u64, Option<i64>, i64);
@@ -16,10 +18,7 @@ type Event = (u64, Option<i64>, i64);
 /// A second and the values of a row.
 type Row<'a> = (u64, &'a [Option<i64>]);
 
-fn moment(second: u64) -> Moment {
-    Moment::of_count(second % 100_000 * 10_000_000)
-}
-
+/// The value of a number, NULL where there is none.
 fn value(number: Option<i64>) -> Value {
     match number {
         Some(number) => Value::Big(number),
@@ -27,6 +26,7 @@ fn value(number: Option<i64>) -> Value {
     }
 }
 
+/// The rows of events.
 fn stream(alloc: Global, events: &[Event]) -> Result<Seq<Stamped>, Memory> {
     let mut rows = Seq::empty(alloc);
     for (second, device, reading) in events {
@@ -39,6 +39,7 @@ fn stream(alloc: Global, events: &[Event]) -> Result<Seq<Stamped>, Memory> {
     Ok(rows)
 }
 
+/// Whether the values are these.
 fn has_values(found: &[Value], wanted: &[Option<i64>]) -> bool {
     found.len() == wanted.len()
         && found.iter().zip(wanted).all(|(value, number)| match (value, number) {
@@ -48,6 +49,7 @@ fn has_values(found: &[Value], wanted: &[Option<i64>]) -> bool {
         })
 }
 
+/// Whether the rows are these.
 fn are_rows(found: &[Stamped], wanted: &[Row]) -> bool {
     found.len() == wanted.len()
         && found.iter().zip(wanted).all(|(row, (second, values))| {
@@ -55,6 +57,7 @@ fn are_rows(found: &[Stamped], wanted: &[Row]) -> bool {
         })
 }
 
+/// Whether the rows of the outputs are these.
 fn are_outputs(found: &[Seq<Stamped>], wanted: &[&[Row]]) -> bool {
     found.len() == wanted.len()
         && found
@@ -221,36 +224,5 @@ fn steps_without_an_earlier_step_have_no_rows(rt: HostRuntime) -> Result<(), Fai
 fn a_plan_over_no_rows_has_none(rt: HostRuntime) -> Result<(), Fail> {
     let steps = [Spelt::Source(0), Spelt::Grid(0, 5, 5, 0, COUNT)];
     assert!(rt; gives(rt.alloc(), &steps, &[1], &[], &[&[]])?);
-    Ok(())
-}
-
-/// A reading of device 1 in each of the seconds 1 to 70,000.
-fn many_readings(alloc: Global) -> Result<Seq<Stamped>, Memory> {
-    let mut rows = Seq::empty(alloc);
-    for second in 0..70_000 {
-        let mut values = Seq::empty(alloc);
-        values.push(Value::Big(1))?;
-        let time = moment(second + 1);
-        rows.push(Stamped { time, values })?;
-    }
-    Ok(rows)
-}
-
-// The pieces of 32,768 rows end within a window.
-#[test]
-fn many_rows_are_taken_piece_by_piece(rt: HostRuntime) -> Result<(), Fail> {
-    let steps = [Spelt::Source(0), Spelt::Grid(0, 10_000, 10_000, 1, COUNT)];
-    let values = [Some(1), Some(10_000)];
-    let wanted: [Row; 7] = [
-        (10_000, &values),
-        (20_000, &values),
-        (30_000, &values),
-        (40_000, &values),
-        (50_000, &values),
-        (60_000, &values),
-        (70_000, &values),
-    ];
-    let rows = many_readings(rt.alloc())?;
-    assert!(rt; gives_over(rt.alloc(), &steps, &[1], rows, &[&wanted])?);
     Ok(())
 }

@@ -6,15 +6,15 @@
 ghost use Rattle.std.specs.Prelude.{IfOk};
 ghost use Rattle.input_book.specs.Laws.{IsWellFormed};
 
+use crate::counts::plan;
+use crate::parts::moment;
 use checkpoint_form::{Batch, Row};
-use event_value::{
-    AggKind, Aggregate, Item, Memory, Output, Plan, Rule, Seq, Step, StreamUse, Text,
-};
-use input_book::{InputErr, Inputs, read_inputs};
+use event_value::{Item, Memory, Rule, Seq};
+use input_book::{InputErr, read_inputs};
+use input_types::Inputs;
 use job_core::Core;
 use std::alloc::Global;
 use std::test::Fail;
-use tick_time::{Moment, Unit, span_of};
 
 /// The second of a record, none for an item that is no record.
 type Mark = Option<u64>;
@@ -67,10 +67,7 @@ segments = [{file = \"b\", through = \"1970-01-01T00:00:03Z\"}]
 /// The last moment, in seconds.
 const LAST: u64 = 253_402_300_800;
 
-fn moment(second: u64) -> Moment {
-    Moment::of_count(second % 253_402_300_801 * 10_000_000)
-}
-
+/// The item of a mark.
 fn item(alloc: Global, mark: Mark) -> Item {
     match mark {
         Some(second) => Item::Good {
@@ -81,6 +78,7 @@ fn item(alloc: Global, mark: Mark) -> Item {
     }
 }
 
+/// The items of marks.
 fn items(alloc: Global, marks: &[Mark]) -> Result<Seq<Item>, Memory> {
     let mut items = Seq::empty(alloc);
     for mark in marks {
@@ -89,77 +87,7 @@ fn items(alloc: Global, marks: &[Mark]) -> Result<Seq<Item>, Memory> {
     Ok(items)
 }
 
-fn one<T: Drop>(alloc: Global, item: T) -> Result<Seq<T>, Memory> {
-    let mut list = Seq::empty(alloc);
-    list.push(item)?;
-    Ok(list)
-}
-
-fn source(alloc: Global) -> Result<Seq<StreamUse>, Memory> {
-    one(
-        alloc,
-        StreamUse {
-            stream: 0,
-            stamp: None,
-            over: Seq::empty(alloc),
-        },
-    )
-}
-
-fn output(alloc: Global) -> Result<Seq<Output>, Memory> {
-    let name = Text::of(alloc, b"out")?;
-    let names = one(alloc, Text::of(alloc, b"n")?)?;
-    one(
-        alloc,
-        Output {
-            name,
-            step: 1,
-            names,
-        },
-    )
-}
-
-/// The windows of five seconds, or of each time, that count events.
-fn window(alloc: Global, tumbling: bool) -> Result<Step, Memory> {
-    let aggs = one(
-        alloc,
-        Aggregate {
-            kind: AggKind::Count,
-            column: None,
-        },
-    )?;
-    match span_of(Unit::Second, 5) {
-        Some(size) if tumbling => Ok(Step::Grid {
-            from: 0,
-            size,
-            hop: size,
-            offset: size,
-            keys: 0,
-            aggs,
-        }),
-        _ => Ok(Step::Snapshot {
-            from: 0,
-            keys: 0,
-            aggs,
-        }),
-    }
-}
-
-fn steps(alloc: Global, tumbling: bool) -> Result<Seq<Step>, Memory> {
-    let mut steps = one(alloc, Step::Source { index: 0 })?;
-    steps.push(window(alloc, tumbling)?)?;
-    Ok(steps)
-}
-
-fn plan(alloc: Global, tumbling: bool) -> Result<Plan, Memory> {
-    Ok(Plan {
-        streams: source(alloc)?,
-        references: Seq::empty(alloc),
-        steps: steps(alloc, tumbling)?,
-        outputs: output(alloc)?,
-    })
-}
-
+/// The inputs of a document, well formed where it is accepted.
 fn inputs(alloc: Global, document: &str) -> Result<Inputs, InputErr>
     ensures { IfOk result IsWellFormed }
 {
@@ -167,6 +95,7 @@ fn inputs(alloc: Global, document: &str) -> Result<Inputs, InputErr>
     Ok(inputs)
 }
 
+/// A core that counts the events of a document's inputs, from a second on.
 fn core(alloc: Global, tumbling: bool, document: &str, start: u64) -> Result<Core, Memory> {
     let plan = plan(alloc, tumbling)?;
     match inputs(alloc, document) {
@@ -175,6 +104,7 @@ fn core(alloc: Global, tumbling: bool, document: &str, start: u64) -> Result<Cor
     }
 }
 
+/// The core, fed so many entries of a segment if the lane has as many to read.
 fn fed(alloc: Global, core: Core, marks: &[Mark], lane: u32, n: u32) -> Result<Core, Memory> {
     let segment = items(alloc, marks)?;
     let all = segment.items();
@@ -185,6 +115,7 @@ fn fed(alloc: Global, core: Core, marks: &[Mark], lane: u32, n: u32) -> Result<C
     }
 }
 
+/// The batches of the cuts among what is done with a core.
 fn run(alloc: Global, core: Core, acts: &[Act]) -> Result<Seq<Batch>, Memory> {
     let mut core = core;
     let mut batches = Seq::empty(alloc);
@@ -201,6 +132,7 @@ fn run(alloc: Global, core: Core, acts: &[Act]) -> Result<Seq<Batch>, Memory> {
     Ok(batches)
 }
 
+/// Whether the rows are these.
 fn are_rows(found: &[Row], wanted: &[(u64, &str)]) -> bool {
     found.len() == wanted.len()
         && found.iter().zip(wanted).all(|(row, (second, text))| {
@@ -208,6 +140,7 @@ fn are_rows(found: &[Row], wanted: &[(u64, &str)]) -> bool {
         })
 }
 
+/// Whether a batch is this one.
 fn is_batch(found: &Batch, wanted: &Wanted) -> bool {
     let (upto, rows, drops) = wanted;
     found.upto == moment(*upto)
@@ -218,6 +151,7 @@ fn is_batch(found: &Batch, wanted: &Wanted) -> bool {
         }
 }
 
+/// Whether the batches are these.
 fn are_batches(found: &[Batch], wanted: &[Wanted]) -> bool {
     found.len() == wanted.len()
         && found

@@ -1,16 +1,16 @@
-//! Items of files, by tables worked out by hand. A row about JSON lines goes to json_files.rt, one
-//! about CSV to csv_files.rt. An item is shown as its enqueue moment in ticks and its values, or as
-//! its rule.
+//! Items of files, by tables worked out by hand. A row about a value of JSON goes to
+//! json_files.rt, one about a line to json_lines.rt, and one about CSV to csv_files.rt. An item is
+//! shown as its enqueue moment in ticks and its values, or as its rule.
 
 mod csv_files;
 mod json_files;
+mod json_lines;
 
 use arrival_text::too_long_items;
-use event_value::{
-    Column, Columns, Item, Kind, Memory, Rule, Seq, Text, Value, push_number, push_value,
-};
+use event_value::{Column, Columns, Item, Kind, Memory, Rule, Seq, Text, Value};
 use std::alloc::Global;
 use std::test::Fail;
+use value_text::{push_number, push_value};
 
 /// The column of a kind under a name, which stands at this path.
 fn column(alloc: Global, name: &str, kind: Kind, path: &[&str]) -> Result<Column, Memory> {
@@ -40,6 +40,7 @@ fn two_columns(alloc: Global) -> Result<Columns, Memory> {
     Ok(columns)
 }
 
+/// The word of a value's kind, with a blank.
 fn kind_name(value: &Value) -> &'static str {
     match value {
         Value::Null => "",
@@ -51,6 +52,7 @@ fn kind_name(value: &Value) -> &'static str {
     }
 }
 
+/// The name of a rule.
 fn rule_name(rule: Rule) -> &'static str {
     match rule {
         Rule::Syntax => "Syntax",
@@ -63,6 +65,7 @@ fn rule_name(rule: Rule) -> &'static str {
     }
 }
 
+/// Values, each with its kind.
 fn push_values(text: &mut Text, values: &[Value]) -> Result<(), Memory> {
     for value in values {
         text.push(b' ')?;
@@ -72,6 +75,7 @@ fn push_values(text: &mut Text, values: &[Value]) -> Result<(), Memory> {
     Ok(())
 }
 
+/// An item as it is shown.
 fn push_item(text: &mut Text, item: &Item) -> Result<(), Memory> {
     match item {
         Item::Good { enqueued, values } => {

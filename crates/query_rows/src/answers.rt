@@ -1,8 +1,10 @@
 //! What a query is answered with over the inputs of the tests.
 
-use event_value::{Column, Format, Kind, Memory, Plan, Seq, Step, Text};
-use input_book::{Inputs, Reference, read_inputs};
+use event_value::{Column, Format, Kind, Memory, Seq, Text};
+use input_book::read_inputs;
+use input_types::{Inputs, Reference};
 use query_parse::parse;
+use query_plan::{Plan, Step};
 use query_type::{TypeErr, plan};
 use std::alloc::Global;
 use std::process::Abort;
@@ -67,6 +69,7 @@ fn unmarked(alloc: Global, line: &str) -> Result<Marked, Memory> {
     Ok(Marked { text, place })
 }
 
+/// A column of a kind under a name.
 fn column(alloc: Global, name: &str, kind: Kind) -> Result<Column, Memory> {
     Ok(Column {
         name: Text::of(alloc, name.as_bytes())?,
@@ -75,7 +78,7 @@ fn column(alloc: Global, name: &str, kind: Kind) -> Result<Column, Memory> {
     })
 }
 
-/// A reference, which no document can have yet.
+/// A reference without snapshots.
 fn reference(alloc: Global, name: &str, columns: Seq<Column>) -> Result<Reference, Memory> {
     Ok(Reference {
         name: Text::of(alloc, name.as_bytes())?,
@@ -103,7 +106,7 @@ pub fn inputs_of(rt: &impl Abort, alloc: Global, document: &str) -> Result<Input
     let references = references(alloc)?;
     let mut inputs = match read_inputs(alloc, document.as_bytes()) {
         Ok(inputs) => inputs,
-        Err(refusal) => panic!(rt; "{refusal:?}"),
+        Err(_) => panic!(rt; "{document}"),
     };
     inputs.references = references;
     Ok(inputs)
@@ -137,6 +140,7 @@ fn steps_text(alloc: Global, plan: &Plan) -> Result<Text, Memory> {
     Ok(text)
 }
 
+/// Whether a plan has these steps.
 fn has_steps(alloc: Global, plan: &Plan, wanted: &str) -> bool {
     match steps_text(alloc, plan) {
         Ok(text) => text.items() == wanted.as_bytes(),
@@ -179,6 +183,7 @@ pub fn is_answered(
     }
 }
 
+/// Whether the query of a line is answered so, a rule at its caret.
 fn is_line_answered(alloc: Global, inputs: &Inputs, line: &str, wanted: &str) -> bool {
     match unmarked(alloc, line) {
         Ok(marked) => is_answered(alloc, inputs, marked.text.items(), (wanted, marked.place)),
@@ -186,6 +191,7 @@ fn is_line_answered(alloc: Global, inputs: &Inputs, line: &str, wanted: &str) ->
     }
 }
 
+/// Asserts each line of a table over these inputs.
 fn check_all(rt: &impl Abort, alloc: Global, inputs: &Inputs, cases: &str) {
     for line in cases.lines() {
         if let Some((query, wanted)) = line.split_once(" => ") {

@@ -1,11 +1,12 @@
 //! Limits of a plan, each on both sides of its edge.
 
 use crate::answers::{TWO, inputs_of, is_answered};
-use event_value::{Memory, Text, push_number};
-use input_book::Inputs;
+use event_value::{Memory, Text};
+use input_types::Inputs;
 use std::alloc::Global;
 use std::process::Abort;
 use std::test::Fail;
+use value_text::push_number;
 
 /// A query of a front, a part that stands for each number from 2 to the last one, with the number
 /// in the place of each `#`, and a back.
@@ -17,6 +18,7 @@ struct Long {
     back: &'static str,
 }
 
+/// A part with this number.
 fn push_part(text: &mut Text, part: &str, number: u64) -> Result<(), Memory> {
     for byte in part.as_bytes() {
         if *byte == b'#' {
@@ -28,6 +30,7 @@ fn push_part(text: &mut Text, part: &str, number: u64) -> Result<(), Memory> {
     Ok(())
 }
 
+/// The text of a long query.
 fn text_of(alloc: Global, long: &Long) -> Result<Text, Memory> {
     let mut text = Text::of(alloc, long.front.as_bytes())?;
     for number in 2..=long.last {

@@ -29,33 +29,23 @@ fn a_copy_keeps_places_and_flags(rt: HostRuntime) -> Result<(), Fail> {
     Ok(())
 }
 
+/// Asserts the places and flags of a copy.
 fn check(rt: &impl Abort, script: &Script) {
     let tail = &script.first.tail;
     assert!(rt; script.semicolon && script.more.items().is_empty());
-    assert_eq!(rt; places_of_definitions(script), Some([0, 0, 5, 11, 33, 51]));
-    assert_eq!(rt; places_of_statement(script), Some([74, 155, 293]));
-    assert_eq!(rt;
-        places_of_case(script),
-        Some([81, 81, 86, 88, 93, 100, 107])
-    );
-    assert_eq!(rt;
-        places_of_cast(script),
-        Some([114, 114, 123, 128, 137, 143])
-    );
-    assert_eq!(rt;
-        places_of_source(tail),
-        Some([160, 162, 164, 177, 179, 187])
-    );
-    assert_eq!(rt; places_of_join(tail), Some([191, 202, 207, 209, 217, 221]));
-    assert_eq!(rt;
-        places_of_groups(tail),
-        Some([243, 252, 254, 273, 278, 285])
-    );
-    assert_eq!(rt; places_of_condition(tail), Some([229, 229, 231, 240]));
-    assert_eq!(rt; side_of_join(tail), Some(Side::Left(191, true)));
-    assert_eq!(rt; tail.source.alias.as_ref().map(is_written), Some(false));
+    assert!(rt; places_of_definitions(script) == Some([0, 0, 5, 11, 33, 51]));
+    assert!(rt; places_of_statement(script) == Some([74, 155, 293]));
+    assert!(rt; places_of_case(script) == Some([81, 81, 86, 88, 93, 100, 107]));
+    assert!(rt; places_of_cast(script) == Some([114, 114, 123, 128, 137, 143]));
+    assert!(rt; places_of_source(tail) == Some([160, 162, 164, 177, 179, 187]));
+    assert!(rt; places_of_join(tail) == Some([191, 202, 207, 209, 217, 221]));
+    assert!(rt; places_of_groups(tail) == Some([243, 252, 254, 273, 278, 285]));
+    assert!(rt; places_of_condition(tail) == Some([229, 229, 231, 240]));
+    assert!(rt; side_of_join(tail) == Some(Side::Left(191, true)));
+    assert!(rt; tail.source.alias.as_ref().map(is_written) == Some(false));
 }
 
+/// The places of the script, of WITH, and of the definitions with their selects.
 fn places_of_definitions(script: &Script) -> Option<[u32; 6]> {
     let with = script.with.as_ref()?;
     let first = &with.first;
@@ -71,12 +61,14 @@ fn places_of_definitions(script: &Script) -> Option<[u32; 6]> {
     ])
 }
 
+/// The places of the statement, of what stands behind its items, and of the second select.
 fn places_of_statement(script: &Script) -> Option<[u32; 3]> {
     let stmt = &script.first;
     let select = stmt.more.items().first()?;
     Some([stmt.place, stmt.tail.place, select.place])
 }
 
+/// The places of the CASE, of its parts, and of the item that it begins.
 fn places_of_case(script: &Script) -> Option<[u32; 7]> {
     let SelectItems::Listed(place, item, _) = &script.first.items else {
         return None;
@@ -97,6 +89,7 @@ fn places_of_case(script: &Script) -> Option<[u32; 7]> {
     ])
 }
 
+/// The places of the cast, of its parts, and of the item with its name.
 fn places_of_cast(script: &Script) -> Option<[u32; 6]> {
     let SelectItems::Listed(_, _, more) = &script.first.items else {
         return None;
@@ -117,6 +110,7 @@ fn places_of_cast(script: &Script) -> Option<[u32; 6]> {
     ])
 }
 
+/// The places of the source, of its name, and of the time of its records.
 fn places_of_source(tail: &Tail) -> Option<[u32; 6]> {
     let source = &tail.source;
     let alias = source.alias.as_ref()?;
@@ -133,6 +127,7 @@ fn places_of_source(tail: &Tail) -> Option<[u32; 6]> {
     ])
 }
 
+/// The places of the join, of its source, and of its condition.
 fn places_of_join(tail: &Tail) -> Option<[u32; 6]> {
     let join = tail.joins.items().first()?;
     let alias = join.source.alias.as_ref()?;
@@ -152,10 +147,12 @@ fn places_of_join(tail: &Tail) -> Option<[u32; 6]> {
     ])
 }
 
+/// Which rows the join has.
 fn side_of_join(tail: &Tail) -> Option<Side> {
     tail.joins.items().first()?.side
 }
 
+/// The places of the groups, of their parts, and of HAVING.
 fn places_of_groups(tail: &Tail) -> Option<[u32; 6]> {
     let groups = tail.groups.as_ref()?;
     let partition = groups.first.partition.as_ref()?;
@@ -170,6 +167,7 @@ fn places_of_groups(tail: &Tail) -> Option<[u32; 6]> {
     ])
 }
 
+/// The places of the condition and of the call in it.
 fn places_of_condition(tail: &Tail) -> Option<[u32; 4]> {
     let condition = tail.condition.as_ref()?;
     let Primary::Call(Call::Function(place, _, Some(args))) = primary_of(condition)? else {
@@ -181,6 +179,7 @@ fn places_of_condition(tail: &Tail) -> Option<[u32; 4]> {
     Some([condition.place, *place, *list_place, first.get().place])
 }
 
+/// Whether AS stands before a name.
 fn is_written(alias: &Alias) -> bool {
     alias.written
 }

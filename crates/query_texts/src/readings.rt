@@ -1,7 +1,8 @@
 //! Readings of small trees, worked out by hand.
 
-use event_value::{Expr, Kind, Memory, Seq, Text, Value};
+use event_value::{Kind, Memory, Seq, Text, Value};
 use query_forms::{Rule, Sense};
+use query_plan::Expr;
 use query_readings::{Reading, Scope, ScopeColumn, ScopeSource};
 use query_senses::read_expr;
 use query_tree as tree;
@@ -39,6 +40,7 @@ fn alone(alloc: Global, primary: Primary) -> tree::Expr {
     }
 }
 
+/// The tree of a column.
 fn column(alloc: Global, name: &str) -> Result<tree::Expr, Memory> {
     let first = Name {
         place: 7,
@@ -74,6 +76,7 @@ fn scope(alloc: Global) -> Result<Scope, Memory> {
     })
 }
 
+/// Whether a reading is the whole numbers of a column.
 fn is_column(reading: &Reading, number: u16) -> bool {
     match &reading.rows {
         Ok(Sense::Value(value)) => {
@@ -83,6 +86,7 @@ fn is_column(reading: &Reading, number: u16) -> bool {
     }
 }
 
+/// Whether a reading has one fault, of this rule at this place.
 fn is_refused(reading: &Reading, place: u32, rule: Rule) -> bool {
     match &reading.rows {
         Err(faults) => match faults.items() {
@@ -93,6 +97,7 @@ fn is_refused(reading: &Reading, place: u32, rule: Rule) -> bool {
     }
 }
 
+/// Whether a reading is NULL.
 fn is_null(reading: &Reading) -> bool {
     match &reading.rows {
         Ok(Sense::Value(value)) => {

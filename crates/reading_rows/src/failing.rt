@@ -20,6 +20,7 @@ enum Read {
 }
 
 impl Read {
+    /// What a table says of this answer.
     fn of(answer: &Result<Segment, ReadErr>) -> Read {
         match answer {
             Ok(Segment::Bytes(bytes)) => Read::Count(bytes.items().len()),
@@ -30,20 +31,29 @@ impl Read {
     }
 }
 
+/// The numbers of the calls that fail.
 fn numbers(alloc: Global, failing: &[u64]) -> Result<Seq<u64>, Memory> {
     Ok(Seq::from_vec(Vec::from_slice(alloc, failing)?))
 }
 
+/// A file of so many bytes.
+fn file(alloc: Global, name: &str, count: usize) -> Result<HeldFile, Memory> {
+    let mut bytes = Text::empty(alloc);
+    for _ in 0..count {
+        bytes.push(b'x')?;
+    }
+    let name = Text::of(alloc, name.as_bytes())?;
+    Ok(HeldFile { name, bytes })
+}
+
+/// The names of files, and their lengths.
+const SIZES: [(&str, usize); 3] = [("empty", 0), ("five", 5), ("long", 20_000)];
+
 /// Files `empty`, `five` and `long` of 0, 5 and 20,000 bytes.
 fn three_files(alloc: Global, failing: &[u64]) -> Result<MemFiles, Memory> {
     let mut held = Seq::empty(alloc);
-    for (name, count) in [("empty", 0), ("five", 5), ("long", 20_000)] {
-        let mut bytes = Text::empty(alloc);
-        for _ in 0..count {
-            bytes.push(b'x')?;
-        }
-        let name = Text::of(alloc, name.as_bytes())?;
-        held.push(HeldFile { name, bytes })?;
+    for &(name, count) in &SIZES {
+        held.push(file(alloc, name, count)?)?;
     }
     Ok(MemFiles::failing_at(alloc, held, numbers(alloc, failing)?))
 }
@@ -65,10 +75,10 @@ fn files_are_read_up_to_the_limit(rt: HostRuntime) -> Result<(), Fail> {
         ("five", 5, &[2], Read::Fault),
         ("five", 5, &[3], Read::Count(5)),
     ];
-    for (name, limit, failing, wanted) in table {
+    for &(name, limit, failing, wanted) in &table {
         let mut files = three_files(alloc, failing)?;
         let answer = read_file(alloc, &mut files, name.as_bytes(), limit);
-        assert_eq!(rt; Read::of(&answer), wanted, "{name} {limit}");
+        assert!(rt; Read::of(&answer) == wanted, "{name} {limit}");
     }
     Ok(())
 }
@@ -101,11 +111,11 @@ fn bytes_are_written_or_a_prefix_of_them(rt: HostRuntime) -> Result<(), Fail> {
         ("abcde", &[1], Some(SinkErr::Fault), "ab"),
         ("abcde", &[2], Some(SinkErr::Fault), "abcd"),
     ];
-    for (bytes, failing, error, wanted) in table {
+    for &(bytes, failing, error, wanted) in &table {
         let inner = MemSink::failing_at(alloc, numbers(alloc, failing)?);
         let mut sink = Pairs { inner };
         let answer = write_all(&mut sink, bytes.as_bytes());
-        assert_eq!(rt; answer.err(), error, "{bytes}");
+        assert!(rt; answer.err() == error, "{bytes}");
         assert_eq!(rt; sink.inner.bytes(), wanted.as_bytes(), "{bytes}");
     }
     Ok(())
@@ -114,8 +124,8 @@ fn bytes_are_written_or_a_prefix_of_them(rt: HostRuntime) -> Result<(), Fail> {
 #[test]
 fn a_sink_keeps_what_was_written_before(rt: HostRuntime) -> Result<(), Fail> {
     let mut sink = MemSink::of(rt.alloc());
-    assert_eq!(rt; write_all(&mut sink, b"one,"), Ok(()));
-    assert_eq!(rt; write_all(&mut sink, b"two"), Ok(()));
+    assert!(rt; write_all(&mut sink, b"one,") == Ok(()));
+    assert!(rt; write_all(&mut sink, b"two") == Ok(()));
     assert_eq!(rt; sink.bytes(), b"one,two".as_slice());
     Ok(())
 }
@@ -124,11 +134,11 @@ fn a_sink_keeps_what_was_written_before(rt: HostRuntime) -> Result<(), Fail> {
 fn a_call_that_fails_passes_nothing_over(rt: HostRuntime) -> Result<(), Fail> {
     let mut files = three_files(rt.alloc(), &[1])?;
     let mut piece = [0; 3];
-    assert_eq!(rt; files.begin(b"five"), Ok(()));
-    assert_eq!(rt; files.read(&mut piece), Err(FileErr::Fault));
-    assert_eq!(rt; files.read(&mut piece), Ok(3));
-    assert_eq!(rt; files.read(&mut piece), Ok(2));
-    assert_eq!(rt; files.read(&mut piece), Ok(0));
+    assert!(rt; files.begin(b"five") == Ok(()));
+    assert!(rt; files.read(&mut piece) == Err(FileErr::Fault));
+    assert!(rt; files.read(&mut piece) == Ok(3));
+    assert!(rt; files.read(&mut piece) == Ok(2));
+    assert!(rt; files.read(&mut piece) == Ok(0));
     Ok(())
 }
 
@@ -138,8 +148,8 @@ fn a_segment_and_a_cause_are_copied(rt: HostRuntime) -> Result<(), Fail> {
     let mut files = three_files(alloc, &[])?;
     let segment = read_file(alloc, &mut files, b"five", 5).map_err(|_| Fail::from("unread"))?;
     let copied = segment.copy()?;
-    assert_eq!(rt; Read::of(&Ok(copied)), Read::Count(5));
-    assert_eq!(rt; Read::of(&Ok(Segment::TooLong.copy()?)), Read::TooLong);
-    assert_eq!(rt; ReadErr::Fault.copy()?, ReadErr::Fault);
+    assert!(rt; Read::of(&Ok(copied)) == Read::Count(5));
+    assert!(rt; Read::of(&Ok(Segment::TooLong.copy()?)) == Read::TooLong);
+    assert!(rt; ReadErr::Fault.copy()? == ReadErr::Fault);
     Ok(())
 }

@@ -3,16 +3,19 @@
 ghost use Rattle.std.specs.Prelude.{IfOk};
 ghost use Rattle.input_book.specs.Laws.{IsWellFormed};
 
-use event_value::{Cond, Copies, Expr, Memory, Seq, Stamped, Text, Value};
-use input_book::{InputErr, Inputs, read_inputs};
+use event_value::{Copies, Memory, Seq, Stamped, Text, Value};
+use input_book::{InputErr, read_inputs};
+use input_types::Inputs;
 use log_reading::{NamedReadErr, read_references};
 use outside::{HeldFile, MemFiles};
+use query_plan::{Cond, Expr};
 use std::alloc::Global;
 use std::test::Fail;
 use stream_joins::{JoinCond, ReferenceJoin, ReferenceSpec, Versions};
 use stream_op::StreamOp;
 use tick_time::Moment;
 
+/// The inputs of a document, well formed where it is accepted.
 fn inputs(alloc: Global, document: &str) -> Result<Inputs, InputErr>
     ensures { IfOk result IsWellFormed }
 {
@@ -136,9 +139,10 @@ reference = [
   ]},
 ]";
 
+/// The files of both snapshots.
 fn files(alloc: Global) -> Result<Seq<HeldFile>, Memory> {
     let mut held = Seq::empty(alloc);
-    for name in ["old", "new"] {
+    for name in &["old", "new"] {
         let name = Text::of(alloc, name.as_bytes())?;
         let bytes = Text::of(alloc, b"k\n1\n")?;
         held.push(HeldFile { name, bytes })?;
@@ -164,8 +168,8 @@ fn each_reference_has_its_snapshots(rt: HostRuntime) -> Result<(), Fail> {
     let [tariff, empty, absent] = versions.items() else {
         panic!(&rt; "three references");
     };
-    assert_eq!(rt; places(tariff), [None, Some(0), Some(1)]);
-    assert_eq!(rt; places(empty), [None, None, None]);
-    assert_eq!(rt; places(absent), [None, None, None]);
+    assert!(rt; places(tariff) == [None, Some(0), Some(1)]);
+    assert!(rt; places(empty) == [None, None, None]);
+    assert!(rt; places(absent) == [None, None, None]);
     Ok(())
 }

@@ -1,5 +1,5 @@
-//! Cases: a query, an inputs document and the files of its segments. What the words over them end with
-//! is looked at in helpers that answer a truth value.
+//! Cases: a query, an inputs document and the files of its segments. What the words over them end
+//! with is looked at in helpers that answer a truth value.
 
 use event_value::{Memory, Seq, Text};
 use jobs_top::{Status, top};
@@ -21,6 +21,7 @@ pub const PREVIEW: [&str; 4] = ["-", "preview", "q.txt", "i.toml"];
 
 pub const CHECK: [&str; 4] = ["-", "check", "q.txt", "i.toml"];
 
+/// A file of this name and these bytes.
 fn held(alloc: Global, name: &[u8], bytes: &[u8]) -> Result<HeldFile, Memory> {
     Ok(HeldFile {
         name: Text::of(alloc, name)?,
@@ -39,6 +40,7 @@ pub fn files_of(alloc: Global, case: Case<'_>) -> Result<MemFiles, Memory> {
     Ok(MemFiles::of(alloc, files))
 }
 
+/// The words of a command.
 pub fn words_of(alloc: Global, words: &[&str]) -> Result<Seq<Text>, Memory> {
     let mut texts = Seq::empty(alloc);
     for word in words {

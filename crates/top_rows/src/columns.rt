@@ -70,66 +70,70 @@ const NULLS: &str = "{\"i\":null,\"f\":null,\"t\":null,\"d\":null,\"b\":null}\n"
 
 #[test]
 fn members_are_values_of_their_columns_kind(rt: HostRuntime) -> Result<(), Fail> {
-    let rows = [
-        (
-            "\"i\":5,\"f\":\"1.50\",\"in\":{\"t\":\"x\"},\"d\":\"2024-01-01\",\"b\":true,",
-            "{\"i\":5,\"f\":1.5,\"t\":\"x\",\"d\":\"2024-01-01T00:00:00.0000000Z\",\"b\":1}\n",
-            "",
-        ),
-        (
-            "\"i\":\"-12\",\"f\":3,\"in\":{\"t\":7},\"d\":\"1970-01-01T00:00:00.1Z\",\"b\":\"false\",",
-            "{\"i\":-12,\"f\":3,\"t\":\"7\",\"d\":\"1970-01-01T00:00:00.1000000Z\",\"b\":0}\n",
-            "",
-        ),
-        (
-            "\"i\":null,\"f\":null,\"in\":{\"t\":null},\"d\":null,\"b\":null,",
-            NULLS,
-            "",
-        ),
-        ("", NULLS, ""),
-        ("\"in\":3,\"t\":\"not here\",", NULLS, ""),
-        ("\"i\":1.5,\"f\":[],", "", "Number"),
-        ("\"i\":9223372036854775808,", "", "Number"),
-        ("\"i\":\"x\",\"f\":1.5,", "", "Field"),
-        ("\"f\":\"1.5.\",", "", "Field"),
-        ("\"in\":{\"t\":[1]},", "", "Field"),
-        ("\"in\":{\"t\":true},", "", "Field"),
-        ("\"d\":5,", "", "Field"),
-        ("\"d\":\"2024-02-30\",", "", "Field"),
-        ("\"b\":2,", "", "Field"),
-        ("\"i\":{\"t\":1},", "", "Field"),
-    ];
-    for (members, row, rule) in rows {
+    for &(members, row, rule) in &MEMBERS {
         assert!(rt; members_give(rt.alloc(), members, row, rule)?);
     }
     Ok(())
 }
 
+/// The members of a record, its row, and the rule by which it is dropped.
+const MEMBERS: [(&str, &str, &str); 15] = [
+    (
+        "\"i\":5,\"f\":\"1.50\",\"in\":{\"t\":\"x\"},\"d\":\"2024-01-01\",\"b\":true,",
+        "{\"i\":5,\"f\":1.5,\"t\":\"x\",\"d\":\"2024-01-01T00:00:00.0000000Z\",\"b\":1}\n",
+        "",
+    ),
+    (
+        "\"i\":\"-12\",\"f\":3,\"in\":{\"t\":7},\"d\":\"1970-01-01T00:00:00.1Z\",\"b\":\"false\",",
+        "{\"i\":-12,\"f\":3,\"t\":\"7\",\"d\":\"1970-01-01T00:00:00.1000000Z\",\"b\":0}\n",
+        "",
+    ),
+    (
+        "\"i\":null,\"f\":null,\"in\":{\"t\":null},\"d\":null,\"b\":null,",
+        NULLS,
+        "",
+    ),
+    ("", NULLS, ""),
+    ("\"in\":3,\"t\":\"not here\",", NULLS, ""),
+    ("\"i\":1.5,\"f\":[],", "", "Number"),
+    ("\"i\":9223372036854775808,", "", "Number"),
+    ("\"i\":\"x\",\"f\":1.5,", "", "Field"),
+    ("\"f\":\"1.5.\",", "", "Field"),
+    ("\"in\":{\"t\":[1]},", "", "Field"),
+    ("\"in\":{\"t\":true},", "", "Field"),
+    ("\"d\":5,", "", "Field"),
+    ("\"d\":\"2024-02-30\",", "", "Field"),
+    ("\"b\":2,", "", "Field"),
+    ("\"i\":{\"t\":1},", "", "Field"),
+];
+
 #[test]
 fn a_line_is_dropped_by_the_first_rule_that_it_breaks(rt: HostRuntime) -> Result<(), Fail> {
-    let rows = [
-        ("{\"i\":1.5,\"b\":2}\n", "", "Enqueued"),
-        (
-            "{\"i\":[],\"EventEnqueuedUtcTime\":1704067200}\n",
-            "",
-            "Enqueued",
-        ),
-        ("[1,2]\n", "", "Syntax"),
-        ("{\"i\":1,}\n", "", "Syntax"),
-        (
-            "\u{feff}{\"i\":1,\"EventEnqueuedUtcTime\":\"2024-01-01\"}",
-            "{\"i\":1,\"f\":null,\"t\":null,\"d\":null,\"b\":null}\n",
-            "",
-        ),
-        (" \r", "", "Syntax"),
-        ("", "", ""),
-        (" \t\n\r\n", "", ""),
-    ];
-    for (records, row, rule) in rows {
+    for &(records, row, rule) in &LINES {
         assert!(rt; file_gives(rt.alloc(), records.as_bytes(), row, rule)?);
     }
     Ok(())
 }
+
+/// The lines of a file, their row, and the rule by which one is dropped.
+const LINES: [(&str, &str, &str); 8] = [
+    ("{\"i\":1.5,\"b\":2}\n", "", "Enqueued"),
+    (
+        "{\"i\":[],\"EventEnqueuedUtcTime\":1704067200}\n",
+        "",
+        "Enqueued",
+    ),
+    ("[1,2]\n", "", "Syntax"),
+    ("{\"i\":1,}\n", "", "Syntax"),
+    (
+        "\u{feff}{\"i\":1,\"EventEnqueuedUtcTime\":\"2024-01-01\"}",
+        "{\"i\":1,\"f\":null,\"t\":null,\"d\":null,\"b\":null}\n",
+        "",
+    ),
+    (" \r", "", "Syntax"),
+    ("", "", ""),
+    (" \t\n\r\n", "", ""),
+];
 
 const TABLE: &str = "[[stream]]
 name = \"src\"

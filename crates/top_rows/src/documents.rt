@@ -48,7 +48,7 @@ fn a_document_is_refused_at_its_key(rt: HostRuntime) -> Result<(), Fail> {
             "error 3 Inputs.ThroughOrder stream[0].partition[0].segments[1].through\n",
         ),
     ];
-    for (inputs, line) in rows {
+    for &(inputs, line) in &rows {
         assert!(rt; are_refused(rt.alloc(), GOOD, inputs, line)?);
     }
     Ok(())
@@ -71,7 +71,7 @@ fn the_text_of_the_query_is_refused_before_the_document_and_its_columns_after(
             "error 3 Query.UnknownColumn 7\n",
         ),
     ];
-    for (query, inputs, line) in rows {
+    for &(query, inputs, line) in &rows {
         assert!(rt; are_refused(rt.alloc(), query, inputs, line)?);
     }
     Ok(())
@@ -113,7 +113,7 @@ fn a_file_that_is_missing_is_named_whatever_the_query_is(rt: HostRuntime) -> Res
         ),
         (PREVIEW, GOOD, "error 5 ReadFault a.json\n"),
     ];
-    for (words, query, line) in rows {
+    for &(words, query, line) in &rows {
         assert!(rt; first_ends(rt.alloc(), words, query, Status::ReadFault, line)?);
     }
     Ok(())

@@ -1,5 +1,9 @@
-//! The examples of the repository: each prints the text beside it. The texts here are those of the files in
-//! examples/, which .ci/examples.py compares.
+//! The examples of the repository: each prints the text beside it. The texts here, and in
+//! examples/meters.rt and examples/tariff.rt, are those of the files in examples/, which
+//! .ci/examples.py compares.
+
+mod meters;
+mod tariff;
 
 use crate::cases::{CHECK, Case, ends, previews};
 use event_value::Memory;
@@ -32,6 +36,7 @@ not json
 {\"a\":2,\"b\":null,\"EventEnqueuedUtcTime\":\"2024-01-01T00:00:01Z\"}
 ";
 
+/// Whether the example prints its expected text.
 fn first_prints(alloc: Global) -> Result<bool, Memory> {
     let case = Case {
         query: FIRST_QUERY.as_bytes(),
@@ -83,6 +88,7 @@ const SENSOR_SENSOR: &str =
 {\"time\":\"2024-01-01T00:00:09Z\",\"dspl\":\"A\",\"temp\":73,\"hmdt\":43,\"EventEnqueuedUtcTime\":\"2024-01-01T00:00:09Z\"}
 ";
 
+/// Whether the example prints its expected text.
 fn sensor_prints(alloc: Global) -> Result<bool, Memory> {
     let case = Case {
         query: SENSOR_QUERY.as_bytes(),
@@ -95,108 +101,6 @@ fn sensor_prints(alloc: Global) -> Result<bool, Memory> {
 #[test]
 fn the_sensor_example_prints_what_its_folder_says(rt: HostRuntime) -> Result<(), Fail> {
     assert!(rt; sensor_prints(rt.alloc())?);
-    Ok(())
-}
-
-const METERS_QUERY: &str = "-- What each meter used, minute by minute.
-SELECT System.Timestamp() AS minute, meter, SUM(wh) AS wh, COUNT(*) AS readings
-INTO usage
-FROM meter TIMESTAMP BY time
-GROUP BY meter, TumblingWindow(minute, 1)
-";
-
-const METERS_INPUTS: &str =
-    "# A reading may be up to 30 seconds late and up to 40 seconds out of order; what is later is dropped.
-[policy]
-late_seconds = 30
-disorder_seconds = 40
-action = \"drop\"
-
-[[stream]]
-name = \"meter\"
-format = \"json\"
-columns = [
-  {name = \"time\", kind = \"datetime\"},
-  {name = \"meter\", kind = \"nvarchar(max)\"},
-  {name = \"wh\", kind = \"bigint\"},
-]
-
-[[stream.partition]]
-ended = true
-segments = [
-  {file = \"examples/meters/north-1.json\", through = \"2024-03-01T12:01:00Z\"},
-  {file = \"examples/meters/north-2.json\", through = \"2024-03-01T12:02:00Z\"},
-]
-
-[[stream.partition]]
-ended = true
-segments = [{file = \"examples/meters/south.json\", through = \"2024-03-01T12:02:00Z\"}]
-
-[[stream.partition]]
-ended = true
-segments = [{file = \"examples/meters/west.json\", through = \"2024-03-01T12:02:30Z\"}]
-";
-
-const METERS_EXPECTED: &str = "output usage
-{\"minute\":\"2024-03-01T12:01:00.0000000Z\",\"meter\":\"n1\",\"wh\":13,\"readings\":2}
-{\"minute\":\"2024-03-01T12:01:00.0000000Z\",\"meter\":\"n2\",\"wh\":16,\"readings\":2}
-{\"minute\":\"2024-03-01T12:01:00.0000000Z\",\"meter\":\"s1\",\"wh\":41,\"readings\":2}
-{\"minute\":\"2024-03-01T12:02:00.0000000Z\",\"meter\":\"n1\",\"wh\":14,\"readings\":1}
-{\"minute\":\"2024-03-01T12:02:00.0000000Z\",\"meter\":\"n2\",\"wh\":8,\"readings\":1}
-{\"minute\":\"2024-03-01T12:02:00.0000000Z\",\"meter\":\"s1\",\"wh\":22,\"readings\":1}
-{\"minute\":\"2024-03-01T12:03:00.0000000Z\",\"meter\":\"n2\",\"wh\":6,\"readings\":1}
-{\"minute\":\"2024-03-01T12:03:00.0000000Z\",\"meter\":\"w1\",\"wh\":31,\"readings\":1}
-drops
-{\"input\":\"meter\",\"partition\":0,\"segment\":1,\"index\":2,\"rule\":\"Late\"}
-{\"input\":\"meter\",\"partition\":0,\"segment\":1,\"index\":5,\"rule\":\"Disorder\"}
-{\"input\":\"meter\",\"partition\":1,\"segment\":0,\"index\":3,\"rule\":\"NoTime\"}
-{\"input\":\"meter\",\"partition\":2,\"segment\":0,\"index\":1,\"rule\":\"Early\"}
-";
-
-const METERS_NORTH_1: &str =
-    "{\"time\":\"2024-03-01T12:00:10Z\",\"meter\":\"n1\",\"wh\":12,\"EventEnqueuedUtcTime\":\"2024-03-01T12:00:11Z\"}
-{\"time\":\"2024-03-01T12:00:40Z\",\"meter\":\"n2\",\"wh\":7,\"EventEnqueuedUtcTime\":\"2024-03-01T12:00:41Z\"}
-";
-
-const METERS_NORTH_2: &str =
-    "{\"time\":\"2024-03-01T12:01:10Z\",\"meter\":\"n1\",\"wh\":14,\"EventEnqueuedUtcTime\":\"2024-03-01T12:01:12Z\"}
-{\"time\":\"2024-03-01T12:00:55Z\",\"meter\":\"n2\",\"wh\":9,\"EventEnqueuedUtcTime\":\"2024-03-01T12:01:14Z\"}
-{\"time\":\"2024-03-01T12:00:20Z\",\"meter\":\"n1\",\"wh\":3,\"EventEnqueuedUtcTime\":\"2024-03-01T12:01:20Z\"}
-{\"time\":\"2024-03-01T12:01:50Z\",\"meter\":\"n2\",\"wh\":8,\"EventEnqueuedUtcTime\":\"2024-03-01T12:01:51Z\"}
-{\"time\":\"2024-03-01T12:02:35Z\",\"meter\":\"n2\",\"wh\":6,\"EventEnqueuedUtcTime\":\"2024-03-01T12:01:55Z\"}
-{\"time\":\"2024-03-01T12:01:45Z\",\"meter\":\"n1\",\"wh\":2,\"EventEnqueuedUtcTime\":\"2024-03-01T12:01:56Z\"}
-";
-
-const METERS_SOUTH: &str =
-    "{\"time\":\"2024-03-01T12:00:30Z\",\"meter\":\"s1\",\"wh\":20,\"EventEnqueuedUtcTime\":\"2024-03-01T12:00:30Z\"}
-{\"time\":\"2024-03-01T12:01:00Z\",\"meter\":\"s1\",\"wh\":21,\"EventEnqueuedUtcTime\":\"2024-03-01T12:01:01Z\"}
-{\"time\":\"2024-03-01T12:01:30Z\",\"meter\":\"s1\",\"wh\":\"22\",\"EventEnqueuedUtcTime\":\"2024-03-01T12:01:31Z\"}
-{\"time\":null,\"meter\":\"s1\",\"wh\":23,\"EventEnqueuedUtcTime\":\"2024-03-01T12:01:40Z\"}
-";
-
-const METERS_WEST: &str =
-    "{\"time\":\"2024-03-01T12:00:05Z\",\"meter\":\"n1\",\"wh\":1,\"EventEnqueuedUtcTime\":\"2024-03-01T12:00:06Z\"}
-{\"time\":\"2024-03-01T12:07:00Z\",\"meter\":\"w1\",\"wh\":30,\"EventEnqueuedUtcTime\":\"2024-03-01T12:01:00Z\"}
-{\"time\":\"2024-03-01T12:02:10Z\",\"meter\":\"w1\",\"wh\":31,\"EventEnqueuedUtcTime\":\"2024-03-01T12:02:12Z\"}
-";
-
-fn meters_prints(alloc: Global) -> Result<bool, Memory> {
-    let case = Case {
-        query: METERS_QUERY.as_bytes(),
-        inputs: METERS_INPUTS.as_bytes(),
-        files: &[
-            ("examples/meters/north-1.json", METERS_NORTH_1.as_bytes()),
-            ("examples/meters/north-2.json", METERS_NORTH_2.as_bytes()),
-            ("examples/meters/south.json", METERS_SOUTH.as_bytes()),
-            ("examples/meters/west.json", METERS_WEST.as_bytes()),
-        ],
-    };
-    previews(alloc, case, METERS_EXPECTED)
-}
-
-#[test]
-fn the_meters_example_prints_what_its_folder_says(rt: HostRuntime) -> Result<(), Fail> {
-    assert!(rt; meters_prints(rt.alloc())?);
     Ok(())
 }
 
@@ -245,6 +149,7 @@ const TILLS_SALES: &str = "EventEnqueuedUtcTime;sold;till;amount
 2024-05-04T09:19:59Z;2024-05-04T09:19:58Z;west;1.05
 ";
 
+/// Whether the example prints its expected text.
 fn tills_prints(alloc: Global) -> Result<bool, Memory> {
     let case = Case {
         query: TILLS_QUERY.as_bytes(),
@@ -257,85 +162,6 @@ fn tills_prints(alloc: Global) -> Result<bool, Memory> {
 #[test]
 fn the_tills_example_prints_what_its_folder_says(rt: HostRuntime) -> Result<(), Fail> {
     assert!(rt; tills_prints(rt.alloc())?);
-    Ok(())
-}
-
-const TARIFF_QUERY: &str =
-    "-- What each reading costs by the tariff in force at its time; a plan without a tariff costs NULL.
-SELECT System.Timestamp() AS time, meter, kwh * price AS cost
-INTO bill
-FROM reading TIMESTAMP BY time
-LEFT JOIN tariff ON reading.plan = tariff.plan
-";
-
-const TARIFF_INPUTS: &str = "[[stream]]
-name = \"reading\"
-format = \"csv\"
-columns = [
-  {name = \"time\", kind = \"datetime\"},
-  {name = \"meter\", kind = \"nvarchar(max)\"},
-  {name = \"plan\", kind = \"nvarchar(max)\"},
-  {name = \"kwh\", kind = \"fixed\"},
-]
-
-[[stream.partition]]
-ended = true
-segments = [{file = \"examples/tariff/readings.csv\", through = \"2024-07-01T01:00:00Z\"}]
-
-[[reference]]
-name = \"tariff\"
-format = \"csv\"
-columns = [
-  {name = \"plan\", kind = \"nvarchar(max)\"},
-  {name = \"price\", kind = \"fixed\"},
-]
-snapshots = [
-  {file = \"examples/tariff/june.csv\", effective = \"2024-06-01T00:00:00Z\"},
-  {file = \"examples/tariff/july.csv\", effective = \"2024-07-01T00:00:00Z\"},
-]
-";
-
-const TARIFF_EXPECTED: &str = "output bill
-{\"time\":\"2024-06-30T23:45:00.0000000Z\",\"meter\":\"m1\",\"cost\":0.45}
-{\"time\":\"2024-07-01T00:00:00.0000000Z\",\"meter\":\"m1\",\"cost\":0.64}
-{\"time\":\"2024-07-01T00:15:00.0000000Z\",\"meter\":\"m2\",\"cost\":0.85}
-{\"time\":\"2024-07-01T00:30:00.0000000Z\",\"meter\":\"m3\",\"cost\":null}
-drops
-";
-
-const TARIFF_READINGS: &str = "EventEnqueuedUtcTime,time,meter,plan,kwh
-2024-06-30T23:45:01Z,2024-06-30T23:45:00Z,m1,day,1.5
-2024-07-01T00:00:01Z,2024-07-01T00:00:00Z,m1,day,2
-2024-07-01T00:15:02Z,2024-07-01T00:15:00Z,m2,night,4.25
-2024-07-01T00:30:01Z,2024-07-01T00:30:00Z,m3,solar,1
-";
-
-const TARIFF_JUNE: &str = "plan,price
-day,0.30
-night,0.18
-";
-
-const TARIFF_JULY: &str = "plan,price
-day,0.32
-night,0.20
-";
-
-fn tariff_prints(alloc: Global) -> Result<bool, Memory> {
-    let case = Case {
-        query: TARIFF_QUERY.as_bytes(),
-        inputs: TARIFF_INPUTS.as_bytes(),
-        files: &[
-            ("examples/tariff/readings.csv", TARIFF_READINGS.as_bytes()),
-            ("examples/tariff/june.csv", TARIFF_JUNE.as_bytes()),
-            ("examples/tariff/july.csv", TARIFF_JULY.as_bytes()),
-        ],
-    };
-    previews(alloc, case, TARIFF_EXPECTED)
-}
-
-#[test]
-fn the_tariff_example_prints_what_its_folder_says(rt: HostRuntime) -> Result<(), Fail> {
-    assert!(rt; tariff_prints(rt.alloc())?);
     Ok(())
 }
 

@@ -121,7 +121,7 @@ fn check_prints_the_canonical_query(rt: HostRuntime) -> Result<(), Fail> {
             "SELECT a, b INTO out FROM src;\n",
         ),
     ];
-    for (query, text) in rows {
+    for &(query, text) in &rows {
         assert!(rt; checks(rt.alloc(), query, text)?);
     }
     Ok(())
@@ -182,7 +182,7 @@ fn a_query_is_refused_at_its_place(rt: HostRuntime) -> Result<(), Fail> {
             "error 3 Query.Unsupported 7\n",
         ),
     ];
-    for (query, line) in rows {
+    for &(query, line) in &rows {
         assert!(rt; is_refused(rt.alloc(), query, line)?);
     }
     Ok(())

@@ -30,6 +30,7 @@ segments = [{ file = \"r.csv\", through = \"2024-01-01T01:00:00Z\" }]
 /// A query, the records of l and of r, and the text of the preview.
 type Row<'a> = (&'a str, &'a str, &'a str, &'a str);
 
+/// Whether the query of a row over its records prints its text.
 fn prints(alloc: Global, row: Row<'_>) -> Result<bool, Memory> {
     let (query, left, right, text) = row;
     let case = Case {
@@ -66,7 +67,7 @@ fn rows_within_the_bound_join_and_a_left_row_without_a_match_comes_alone(
         "SELECT System.Timestamp() AS w, l.k AS a, r.k AS b INTO out FROM l TIMESTAMP BY t LEFT JOIN r TIMESTAMP BY u ON DATEDIFF(second, l, r) BETWEEN 0 AND 10 AND l.k = r.k",
         "SELECT System.Timestamp() AS w, l.k AS a, r.k AS b INTO out FROM l TIMESTAMP BY t LEFT JOIN r TIMESTAMP BY u ON l.k = r.k AND DATEDIFF(second, r, l) BETWEEN -10 AND 0",
     ];
-    for query in rows {
+    for &query in &rows {
         assert!(rt; prints(rt.alloc(), (query, LEFT, RIGHT, ALL_THREE))?);
     }
     Ok(())
@@ -130,7 +131,7 @@ fn joined_rows_go_on_through_filters_and_windows(rt: HostRuntime) -> Result<(), 
             "output out\n{\"w\":\"2024-01-01T00:00:07.0000000Z\",\"n\":2}\n{\"w\":\"2024-01-01T00:00:13.0000000Z\",\"n\":1}\ndrops\n",
         ),
     ];
-    for (query, text) in rows {
+    for &(query, text) in &rows {
         assert!(rt; prints(rt.alloc(), (query, TWINS, ONE, text))?);
     }
     Ok(())

@@ -70,7 +70,7 @@ fn a_long_record_and_a_long_file_are_dropped(rt: HostRuntime) -> Result<(), Fail
             "output out\ndrops\n{\"input\":\"src\",\"partition\":0,\"segment\":0,\"index\":0,\"rule\":\"SegmentTooLong\"}\n",
         ),
     ];
-    for (length, text) in rows {
+    for &(length, text) in &rows {
         assert!(rt; line_gives(rt.alloc(), length, text)?);
     }
     Ok(())

@@ -87,7 +87,7 @@ drops
 ",
         ),
     ];
-    for (query, text) in rows {
+    for &(query, text) in &rows {
         assert!(rt; prints(rt.alloc(), query, text)?);
     }
     Ok(())

@@ -39,7 +39,7 @@ fn words_that_are_no_command_are_a_usage_fault(rt: HostRuntime) -> Result<(), Fa
         "- run q.txt i.toml",
         "db:x preview q.txt i.toml",
     ];
-    for line in rows {
+    for &line in &rows {
         assert!(rt; is_usage_fault(rt.alloc(), line)?);
     }
     Ok(())
@@ -57,6 +57,7 @@ fn ends_with_the_sinks_fault(
     status == Status::OutFault && out.bytes().is_empty()
 }
 
+/// Whether a preview into a sink whose first call fails ends with OutFault and nothing written.
 fn failing_sink_ends_the_preview(alloc: Global) -> Result<bool, Memory> {
     let words = words_of(alloc, &PREVIEW)?;
     let mut files = files_of(alloc, case_of(QUERY))?;
@@ -80,7 +81,7 @@ fn statuses_have_their_numbers(rt: HostRuntime) {
         (Status::OutFault, 9),
         (Status::Memory, 11),
     ];
-    for (status, number) in rows {
+    for &(status, number) in &rows {
         assert_eq!(rt; status.number(), number);
     }
 }

@@ -147,7 +147,7 @@ drops
         "SELECT System.Timestamp() AS w, COUNT(*) AS n INTO out FROM sensor TIMESTAMP BY time GROUP BY SnapshotWindow()",
         "SELECT System.Timestamp() AS w, COUNT(*) AS n INTO out FROM sensor TIMESTAMP BY time GROUP BY System.Timestamp()",
     ];
-    for query in rows {
+    for &query in &rows {
         assert!(rt; prints(rt.alloc(), query, KEYLESS, text)?);
     }
     Ok(())
@@ -170,6 +170,7 @@ const TWO_DEVICES: &str =
 {\"dev\":\"B\",\"t\":\"2024-01-01T12:00:00Z\",\"EventEnqueuedUtcTime\":\"2024-01-01T12:01:01Z\"}
 ";
 
+/// Whether a query over both devices prints this text.
 fn devices_print(alloc: Global, query: &str, text: &str) -> Result<bool, Memory> {
     let case = Case {
         query: query.as_bytes(),
@@ -201,7 +202,7 @@ drops
             together,
         ),
     ];
-    for (query, text) in rows {
+    for &(query, text) in &rows {
         assert!(rt; devices_print(rt.alloc(), query, text)?);
     }
     Ok(())

@@ -1,13 +1,17 @@
 //! The value of every form of expression and the truth of every form of condition, by tables
-//! worked out by hand. A row for an operation goes to operations.rt, one for a condition to
-//! conditions.rt, and one for a column, a cast or a choice to choices.rt.
+//! worked out by hand. A row for an operation goes to operations.rt, or to texts.rt if on texts;
+//! one for a condition to conditions.rt, or to patterns.rt if of a text's pattern; and one for a
+//! column, a cast or a choice to choices.rt.
 
 mod choices;
 mod conditions;
 mod operations;
+mod patterns;
+mod texts;
 
-use event_value::{Cond, Expr, Memory, Op, Text, Value};
+use event_value::{Memory, Text, Value};
 use expr_eval::{eval, holds};
+use query_plan::{Cond, Expr, Op};
 use sqlite_items::Items;
 use std::alloc::Global;
 use tick_time::Moment;
@@ -72,6 +76,32 @@ pub fn has_value(alloc: Global, expr: &Expr, expected: Spelt) -> Result<bool, Me
 pub fn gives(alloc: Global, op: Op, operands: &[Spelt], expected: Spelt) -> Result<bool, Memory> {
     let expr = Expr::Apply(op, literals(alloc, operands)?);
     has_value(alloc, &expr, expected)
+}
+
+/// An operation, its operand, and the value.
+pub type One = (Op, Spelt, Spelt);
+
+/// An operation, its two operands, and the value.
+pub type Two = (Op, Spelt, Spelt, Spelt);
+
+/// The first row of a table that does not come out, counted from 0.
+pub fn first_wrong_of_one(alloc: Global, rows: &[One]) -> Result<Option<usize>, Memory> {
+    for (place, (op, operand, expected)) in rows.iter().enumerate() {
+        if !gives(alloc, *op, &[*operand], *expected)? {
+            return Ok(Some(place));
+        }
+    }
+    Ok(None)
+}
+
+/// The first row of a table of two operands that does not come out.
+pub fn first_wrong_of_two(alloc: Global, rows: &[Two]) -> Result<Option<usize>, Memory> {
+    for (place, (op, left, right, expected)) in rows.iter().enumerate() {
+        if !gives(alloc, *op, &[*left, *right], *expected)? {
+            return Ok(Some(place));
+        }
+    }
+    Ok(None)
 }
 
 /// Whether a condition over no columns has this truth at the moment zero.

@@ -7,7 +7,8 @@
 mod bound;
 mod reference;
 
-use event_value::{Cond, Expr, Memory, Rel, Seq, Stamped, Value};
+use event_value::{Memory, Seq, Stamped, Value};
+use query_plan::{Cond, Expr, Rel};
 use std::alloc::Global;
 use stream_joins::JoinCond;
 use tick_time::Moment;
@@ -20,10 +21,12 @@ type Joined = (u64, i64, Option<i64>);
 
 const SECOND: u64 = 10_000_000;
 
+/// The moment of so many ticks.
 fn moment(ticks: u64) -> Moment {
     Moment::of_count(ticks % (1_000 * SECOND))
 }
 
+/// The value of a number, NULL where there is none.
 fn number_or_null(number: Option<i64>) -> Value {
     match number {
         Some(number) => Value::Big(number),
@@ -31,6 +34,7 @@ fn number_or_null(number: Option<i64>) -> Value {
     }
 }
 
+/// The rows of a table.
 fn rows_of(alloc: Global, marks: &[Row]) -> Result<Seq<Stamped>, Memory> {
     let mut rows = Seq::empty(alloc);
     for (time, key, number) in marks {
@@ -43,6 +47,7 @@ fn rows_of(alloc: Global, marks: &[Row]) -> Result<Seq<Stamped>, Memory> {
     Ok(rows)
 }
 
+/// Whether a row is that of these two.
 fn is_joined(row: &Stamped, wanted: &Joined) -> bool {
     let (time, left, right) = wanted;
     let values = row.values.items();
@@ -53,6 +58,7 @@ fn is_joined(row: &Stamped, wanted: &Joined) -> bool {
         && (right.is_some() || values.get(2) == Some(&Value::Null))
 }
 
+/// Whether the rows are these.
 fn are_joined(rows: &[Stamped], wanted: &[Joined]) -> bool {
     rows.len() == wanted.len()
         && rows

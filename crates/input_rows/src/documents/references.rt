@@ -158,7 +158,7 @@ fn lengths_of_lists_of_references(rt: HostRuntime) -> Result<(), Fail> {
             "TooMany reference[1].snapshots",
         ),
     ];
-    for (front, piece, count, back, wanted) in cases {
+    for &(front, piece, count, back, wanted) in &cases {
         let mut document = Text::of(rt.alloc(), STREAM.as_bytes())?;
         document.extend(b"reference = [")?;
         document.extend(front.as_bytes())?;

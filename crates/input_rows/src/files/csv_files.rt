@@ -106,7 +106,7 @@ const BITS: [(&str, &str); 5] = [
 fn records_are_those_of_the_crate(rt: HostRuntime) -> Result<(), Fail> {
     let alloc = rt.alloc();
     let columns = two_columns(alloc)?;
-    for (bytes, wanted) in RECORDS {
+    for &(bytes, wanted) in &RECORDS {
         assert!(rt;
             gives(alloc, &columns, false, b';', bytes, wanted)?,
             "{bytes:?}"
@@ -153,7 +153,7 @@ const RECORDS: [(&[u8], &str); 22] = [
 fn the_first_rule_that_a_record_breaks_drops_it(rt: HostRuntime) -> Result<(), Fail> {
     let alloc = rt.alloc();
     let columns = two_columns(alloc)?;
-    for (text, wanted) in RULES {
+    for &(text, wanted) in &RULES {
         assert!(rt;
             gives(alloc, &columns, true, b',', text.as_bytes(), wanted)?,
             "{text}"

@@ -2,8 +2,9 @@
 
 use super::Spelt::{self, Big, Moment, Null, Text};
 use super::{has_value, lit, value};
-use event_value::{Branch, Cond, Expr, Kind, Memory, Op, Rel, Value};
+use event_value::{Kind, Memory, Value};
 use expr_eval::eval;
+use query_plan::{Branch, Cond, Expr, Op, Rel};
 use sqlite_items::{Boxed, Items};
 use std::alloc::Global;
 use std::test::Fail;

@@ -1,4 +1,7 @@
-//! Tests of the join within a bound.
+//! Tests of the join within a bound, in one piece and in many; those in one piece alone stand in
+//! bound/cases.rt.
+
+mod cases;
 
 ghost use Rattle.std.specs.Prelude.{true};
 
@@ -17,6 +20,7 @@ type Cut<'a> = (&'a [Row], &'a [Row], u64);
 /// rows come alone.
 type Within = (i64, i64, bool);
 
+/// The answers of a join, behind each other.
 fn answers<M: Matches>(
     alloc: Global,
     spec: &BoundSpec<M>,
@@ -108,7 +112,7 @@ fn near_pairs_join_and_left_rows_without_come_alone(rt: HostRuntime) -> Result<(
         (10 * SECOND, 1, Some(12)),
         (40 * SECOND, 2, None),
     ];
-    for way in WAYS {
+    for &way in &WAYS {
         assert!(rt; gives_by_keys(rt.alloc(), (0, 10, true), way, &wanted)?);
     }
     Ok(())
@@ -117,7 +121,7 @@ fn near_pairs_join_and_left_rows_without_come_alone(rt: HostRuntime) -> Result<(
 #[test]
 fn an_inner_join_has_pairs_alone(rt: HostRuntime) -> Result<(), Fail> {
     let wanted = [(0, 1, Some(11)), (10 * SECOND, 1, Some(12))];
-    for way in WAYS {
+    for &way in &WAYS {
         assert!(rt; gives_by_keys(rt.alloc(), (0, 10, false), way, &wanted)?);
     }
     Ok(())
@@ -138,108 +142,6 @@ fn a_left_row_comes_alone_when_no_match_can_come_any_more(rt: HostRuntime) -> Re
         (40 * SECOND, 2, Some(14)),
     ];
     assert!(rt; gives_by_keys(rt.alloc(), (0, 10, true), late_match, wanted)?);
-    Ok(())
-}
-
-/// Bounds, left and right rows, and the rows of their join.
-type Case<'a> = (Within, &'a [Row], &'a [Row], &'a [Joined]);
-
-fn all_give(alloc: Global, cases: &[Case]) -> Result<bool, Memory> {
-    for (within, left, right, wanted) in cases {
-        if !gives_by_keys(alloc, *within, &[(*left, *right, LAST)], wanted)? {
-            return Ok(false);
-        }
-    }
-    Ok(true)
-}
-
-#[test]
-fn a_bound_may_look_back(rt: HostRuntime) -> Result<(), Fail> {
-    let cases: [Case; 3] = [
-        // up to ten seconds back, as where the two sides of the bound are exchanged
-        (
-            (-10, 0, true),
-            &[(10 * SECOND, Some(1), 1)],
-            &[
-                (0, Some(1), 11),
-                (10 * SECOND, Some(1), 12),
-                (10 * SECOND + 1, Some(1), 13),
-            ],
-            &[(10 * SECOND, 1, Some(11)), (10 * SECOND, 1, Some(12))],
-        ),
-        // wholly back: a left row without a match comes at its own time
-        (
-            (-10, -5, true),
-            &[(20 * SECOND, Some(1), 1), (21 * SECOND, Some(3), 2)],
-            &[
-                (10 * SECOND - 1, Some(1), 11),
-                (10 * SECOND, Some(1), 12),
-                (15 * SECOND, Some(1), 13),
-                (15 * SECOND + 1, Some(1), 14),
-            ],
-            &[
-                (20 * SECOND, 1, Some(12)),
-                (20 * SECOND, 1, Some(13)),
-                (21 * SECOND, 2, None),
-            ],
-        ),
-        // both ways
-        (
-            (-5, 5, true),
-            &[(10 * SECOND, Some(1), 1)],
-            &[
-                (4 * SECOND, Some(1), 11),
-                (5 * SECOND, Some(1), 12),
-                (15 * SECOND, Some(1), 13),
-                (16 * SECOND, Some(1), 14),
-            ],
-            &[(10 * SECOND, 1, Some(12)), (15 * SECOND, 1, Some(13))],
-        ),
-    ];
-    assert!(rt; all_give(rt.alloc(), &cases)?);
-    Ok(())
-}
-
-#[test]
-fn rows_of_one_time_go_by_left_and_then_right_places(rt: HostRuntime) -> Result<(), Fail> {
-    let cases: [Case; 3] = [
-        (
-            (0, 10, true),
-            &[(5 * SECOND, Some(1), 1), (5 * SECOND, Some(1), 2)],
-            &[(5 * SECOND, Some(1), 11)],
-            &[(5 * SECOND, 1, Some(11)), (5 * SECOND, 2, Some(11))],
-        ),
-        (
-            (0, 10, true),
-            &[(4 * SECOND, Some(1), 1), (5 * SECOND, Some(1), 2)],
-            &[(6 * SECOND, Some(1), 11), (6 * SECOND, Some(1), 12)],
-            &[
-                (6 * SECOND, 1, Some(11)),
-                (6 * SECOND, 1, Some(12)),
-                (6 * SECOND, 2, Some(11)),
-                (6 * SECOND, 2, Some(12)),
-            ],
-        ),
-        (
-            (0, 10, true),
-            &[(30 * SECOND, Some(2), 1), (35 * SECOND, Some(1), 2)],
-            &[(40 * SECOND, Some(1), 11)],
-            &[(40 * SECOND, 1, None), (40 * SECOND, 2, Some(11))],
-        ),
-    ];
-    assert!(rt; all_give(rt.alloc(), &cases)?);
-    Ok(())
-}
-
-#[test]
-fn null_keys_never_match(rt: HostRuntime) -> Result<(), Fail> {
-    let cases: [Case; 1] = [(
-        (0, 10, true),
-        &[(0, None, 1)],
-        &[(0, None, 11)],
-        &[(10 * SECOND, 1, None)],
-    )];
-    assert!(rt; all_give(rt.alloc(), &cases)?);
     Ok(())
 }
 

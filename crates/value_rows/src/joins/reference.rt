@@ -64,6 +64,7 @@ const LEFT: &[Row] = &[
 /// The next rows, and below which time they are then complete.
 type Cut<'a> = (&'a [Row], u64);
 
+/// The answers of a join, behind each other.
 fn answers<M: Matches>(
     alloc: Global,
     spec: &ReferenceSpec<M>,
@@ -128,7 +129,7 @@ fn a_row_meets_the_snapshot_in_force_at_its_time(rt: HostRuntime) -> Result<(), 
         (20, 6, Some(201)),
         (20, 6, Some(202)),
     ];
-    for way in WAYS {
+    for &way in &WAYS {
         assert!(rt; gives_by_keys(rt.alloc(), false, way, &wanted)?);
     }
     Ok(())
@@ -145,7 +146,7 @@ fn a_row_without_a_match_comes_alone_at_its_time(rt: HostRuntime) -> Result<(), 
         (20, 6, Some(201)),
         (20, 6, Some(202)),
     ];
-    for way in WAYS {
+    for &way in &WAYS {
         assert!(rt; gives_by_keys(rt.alloc(), true, way, &wanted)?);
     }
     Ok(())
