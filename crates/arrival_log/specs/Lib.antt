@@ -1,5 +1,4 @@
 -- what the contracts rest on
 pub mod Log
 pub mod Kept
-pub mod Lane
 pub mod Laws

@@ -2,7 +2,7 @@
 use Rattle.std.specs.Prelude.{ℕ, ℤ, pos, List, [], ◌∷◌, codes, Bool, true, false, if◌then◌else◌, Option, Some, None, option_and_then, Result, Ok, Err}
 use Rattle.std.specs.Ordering.{int_eq}
 use Rattle.tick_time.specs.MomentReading.{moment_of}
-use Rattle.event_value.specs.Casts.{cast_value}
+use Rattle.value_text.specs.Casts.{cast_value}
 use Rattle.event_value.specs.declared.kind.Kind.{Kind}
 use Rattle.event_value.specs.declared.kind.Kind.TheVariants as kinds
 use Rattle.event_value.specs.declared.record.Item.{Item}

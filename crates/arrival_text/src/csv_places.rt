@@ -11,7 +11,7 @@ use event_value::{Column, Kind, Memory, Seq, Text};
 use std::alloc::Global;
 
 /// Where a column's values stand, if the header has it.
-#[derive(Clone, Copy, Debug)]
+#[derive(Clone, Copy)]
 pub struct Place {
     /// The kind of the column.
     pub kind: Kind,

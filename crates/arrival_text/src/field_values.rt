@@ -4,9 +4,10 @@ ghost use Rattle.std.specs.Prelude.{◌≡◌, Some, IfOk, option_map};
 ghost use Rattle.arrival_text.specs.Items.{cast_or_field, text_value, number_value, truth_value};
 ghost use Rattle.arrival_text.specs.Items.{bit_of_number, enqueue_moment, item_of};
 
-use event_value::{Item, Kind, Memory, Rule, Seq, Text, Value, cast};
+use event_value::{Item, Kind, Memory, Rule, Seq, Text, Value};
 use std::alloc::Global;
 use tick_time::{Moment, read_moment};
+use value_text::cast;
 
 /// The greatest length of a record in bytes.
 pub const MAX_RECORD: usize = 65_536;
@@ -15,7 +16,7 @@ pub const MAX_RECORD: usize = 65_536;
 pub const ENQUEUED: &str = "EventEnqueuedUtcTime";
 
 /// A text as a value of a kind, or the rule that it breaks.
-#[tactic(auto, unfolding(event_value::specs::Casts::cast_value, event_value::specs::Casts::cast_to_text, event_value::specs::Casts::cast_to_moment))]
+#[tactic(auto, unfolding(value_text::specs::Casts::cast_value, value_text::specs::Casts::cast_to_text, value_text::specs::Casts::cast_to_moment))]
 pub fn text_value(alloc: Global, kind: Kind, text: &[u8]) -> Result<Result<Value, Rule>, Memory>
     ensures { IfOk result (λ value. value ≡ text_value kind text.now) }
 {

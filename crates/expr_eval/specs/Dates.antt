@@ -2,7 +2,7 @@
 use Rattle.std.specs.Prelude.{ℕ, pos, Option, Some, None}
 use Rattle.tick_time.specs.DateArithmetic.{date_sum, date_difference, date_field}
 use Rattle.tick_time.specs.declared.part.Part.{Part}
-use Rattle.event_value.specs.Casts.{moment_or_null}
+use Rattle.value_text.specs.Casts.{moment_or_null}
 use Rattle.event_value.specs.declared.value.Value.{Value}
 use Rattle.event_value.specs.declared.value.Value.TheVariants.{Null, Big, Moment}
 

@@ -1,10 +1,10 @@
 -- Arithmetic: what doesn't fit 64 bits, and a quotient by zero, is Null.
 use Rattle.std.specs.Prelude.{ℤ, pos, ◌+ℤ◌, ◌-ℤ◌, ◌*ℤ◌, neg_ℤ, int_div, int_rem, Option, Some, None, ◌≤◌, ◌^◌, unsigned_abs, if◌then◌else◌}
 use Rattle.std.specs.Ordering.{int_eq}
-use Rattle.event_value.specs.Numbers.{whole_value, fixed_value}
-use Rattle.event_value.specs.Printed.{million}
-use Rattle.event_value.specs.declared.expr.Op.{Op}
-use Rattle.event_value.specs.declared.expr.Op.TheVariants.{Add, Sub, Mul, Div, Rem}
+use Rattle.value_text.specs.Numbers.{whole_value, fixed_value}
+use Rattle.value_text.specs.Printed.{million}
+use Rattle.query_plan.specs.declared.expr.Op.{Op}
+use Rattle.query_plan.specs.declared.expr.Op.TheVariants.{Add, Sub, Mul, Div, Rem}
 use Rattle.event_value.specs.declared.value.Value.{Value}
 use Rattle.event_value.specs.declared.value.Value.TheVariants.{Null, Big, Fixed}
 

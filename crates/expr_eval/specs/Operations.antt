@@ -1,7 +1,7 @@
 -- The value of an operation on its operands: Null for another number of them than it takes, and for values of other kinds.
 use Rattle.std.specs.Prelude.{Bool, true, false, if◌then◌else◌, List, [], ◌∷◌}
-use Rattle.event_value.specs.declared.expr.Op.{Op}
-use Rattle.event_value.specs.declared.expr.Op.TheVariants.{Add, Sub, Mul, Div, Rem, Neg, Abs, DateAdd, DateDiff, DatePart, Len, Lower, Upper, Substring, Concat, Coalesce}
+use Rattle.query_plan.specs.declared.expr.Op.{Op}
+use Rattle.query_plan.specs.declared.expr.Op.TheVariants.{Add, Sub, Mul, Div, Rem, Neg, Abs, DateAdd, DateDiff, DatePart, Len, Lower, Upper, Substring, Concat, Coalesce}
 use Rattle.event_value.specs.declared.value.Value.{Value}
 use Rattle.event_value.specs.declared.value.Value.TheVariants.{Null}
 use Rattle.expr_eval.specs.Dates.{later, boundaries, field}

@@ -3,7 +3,7 @@ use Rattle.std.specs.Prelude.{ℕ, ℤ, pos, negsuc, ◌+ℤ◌, ◌-ℤ◌, int
 use Rattle.std.specs.List.{flat_map, list_all}
 use Rattle.std.specs.Char.{to_ascii_lowercase, to_ascii_uppercase}
 use Rattle.std.specs.Str.{chars, is_utf8, encode_utf8_all}
-use Rattle.event_value.specs.Numbers.{whole_value}
+use Rattle.value_text.specs.Numbers.{whole_value}
 use Rattle.event_value.specs.declared.value.Value.{Value}
 use Rattle.event_value.specs.declared.value.Value.TheVariants.{Null, Big, Text}
 

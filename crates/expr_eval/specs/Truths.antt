@@ -4,10 +4,10 @@ use Rattle.std.specs.declared.cmp.Ordering.{Ordering}
 use Rattle.std.specs.Ordering.{is_eq, is_ne, is_lt, is_le, is_gt, is_ge, int_cmp, nat_cmp}
 use Rattle.std.specs.Cmp.Lexicographic.{slice_cmp}
 use Rattle.std.specs.Str.{is_utf8}
-use Rattle.event_value.specs.Casts.{number_of_bit}
-use Rattle.event_value.specs.Printed.{million}
-use Rattle.event_value.specs.declared.expr.Rel.{Rel}
-use Rattle.event_value.specs.declared.expr.Rel.TheVariants.{Eq, Ne, Lt, Le, Gt, Ge}
+use Rattle.value_text.specs.Casts.{number_of_bit}
+use Rattle.value_text.specs.Printed.{million}
+use Rattle.query_plan.specs.declared.expr.Rel.{Rel}
+use Rattle.query_plan.specs.declared.expr.Rel.TheVariants.{Eq, Ne, Lt, Le, Gt, Ge}
 use Rattle.event_value.specs.declared.value.Value.{Value}
 use Rattle.event_value.specs.declared.value.Value.TheVariants.{Big, Fixed, Text, Bit, Moment}
 

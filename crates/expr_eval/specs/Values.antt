@@ -1,12 +1,12 @@
 -- The value of an expression and the truth of a condition, over the values of a row and its time.
 use Rattle.std.specs.Prelude.{ℕ, Bool, if◌then◌else◌, Option, Some, None, List, [], ◌∷◌, slice_get}
-use Rattle.event_value.specs.declared.expr.Expr.{Expr, fold-Expr}
-use Rattle.event_value.specs.declared.expr.Branch.{Branch, fold-Branch}
-use Rattle.event_value.specs.declared.expr.Cond.{Cond, fold-Cond}
-use Rattle.event_value.specs.declared.expr.Cond.TheOpen.{Expr-F, Cond-F, Branch-F}
+use Rattle.query_plan.specs.declared.expr.Expr.{Expr, fold-Expr}
+use Rattle.query_plan.specs.declared.expr.Branch.{Branch, fold-Branch}
+use Rattle.query_plan.specs.declared.expr.Cond.{Cond, fold-Cond}
+use Rattle.query_plan.specs.declared.expr.Cond.TheOpen.{Expr-F, Cond-F, Branch-F}
 use Rattle.event_value.specs.declared.value.Value.{Value}
 use Rattle.event_value.specs.declared.value.Value.TheVariants.{Null, Moment}
-use Rattle.event_value.specs.Casts.{cast_value}
+use Rattle.value_text.specs.Casts.{cast_value}
 use Rattle.expr_eval.specs.Operations.{applied, is_null}
 use Rattle.expr_eval.specs.Patterns.{like}
 use Rattle.expr_eval.specs.Truths.{Truth, not3, and3, or3, is_true, compared, one_of}

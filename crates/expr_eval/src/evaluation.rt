@@ -6,13 +6,18 @@ ghost use Rattle.expr_eval.specs.Values as spec;
 use crate::operations::{apply, is_null};
 use crate::patterns::like;
 use crate::truths::{and3, compare, not3, one_of, or3};
-use event_value::{Branch, Cond, Copies, Expr, Memory, Seq, Value, cast};
+use event_value::{Copies, Memory, Seq, Value};
+use query_plan::{Branch, Cond, Expr};
 use std::alloc::Global;
 use tick_time::Moment;
+use value_text::cast;
 
-// The value of a column; Null past the values.
+/// The value of a column; Null past the values.
+///
+/// # Errors
+/// `Memory` where there was none for the copy.
 #[tactic(auto, unfolding(crate::specs::Values::column))]
-fn column(values: &[Value], place: u16) -> Result<Value, Memory>
+pub fn column(values: &[Value], place: u16) -> Result<Value, Memory>
     ensures { IfOk result (λ found. found ≡ spec.column values.now place) }
 {
     match values.get(place as usize) {

@@ -13,4 +13,4 @@ mod patterns;
 mod texts;
 mod truths;
 
-pub use evaluation::{eval, holds};
+pub use evaluation::{column, eval, holds};

@@ -1,11 +1,13 @@
 //! Arithmetic on whole and decimal numbers.
 
 ghost use Rattle.std.specs.Prelude.{◌≡◌, ◌*ℤ◌, pos};
-ghost use Rattle.event_value.specs.Printed.{million};
+ghost use Rattle.value_text.specs.Printed.{million};
 ghost use Rattle.expr_eval.specs.Numbers as spec;
-ghost use Rattle.event_value.specs.Numbers as values;
+ghost use Rattle.value_text.specs.Numbers as values;
 
-use event_value::{Op, Value, fixed_value, whole_value};
+use event_value::Value;
+use query_plan::Op;
+use value_text::{fixed_value, whole_value};
 
 // How many millionths make one.
 const MILLION: i64 = 1_000_000;

@@ -6,7 +6,8 @@ ghost use Rattle.expr_eval.specs.Operations as spec;
 use crate::dates::{boundaries, field, later};
 use crate::numbers::{absolute, arithmetic, negated};
 use crate::texts::{character_count, joined, lower, substring, upper};
-use event_value::{Copies, Memory, Op, Value};
+use event_value::{Copies, Memory, Value};
+use query_plan::Op;
 use std::alloc::Global;
 
 /// Whether a value is Null.

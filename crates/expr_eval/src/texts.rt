@@ -6,8 +6,9 @@ ghost use Rattle.std.specs.Char.{to_ascii_lowercase, to_ascii_uppercase};
 ghost use Rattle.std.specs.Str.{chars, is_utf8, encode_utf8_all};
 ghost use Rattle.expr_eval.specs.Texts as spec;
 
-use event_value::{Memory, Text, Value, whole_value};
+use event_value::{Memory, Text, Value};
 use std::alloc::Global;
+use value_text::whole_value;
 
 // The greatest length of a result, in bytes.
 const MAX_TEXT: usize = 65_536;

@@ -1,11 +1,12 @@
 //! Three-valued logic and comparisons.
 
 ghost use Rattle.std.specs.Prelude.{◌≡◌};
-ghost use Rattle.event_value.specs.Casts.{number_of_bit};
+ghost use Rattle.value_text.specs.Casts.{number_of_bit};
 ghost use Rattle.expr_eval.specs.Truths as spec;
 
 use crate::texts::is_utf8;
-use event_value::{Rel, Value};
+use event_value::Value;
+use query_plan::Rel;
 use std::cmp::Ordering;
 
 // How many millionths make one.

@@ -1,37 +1,37 @@
--- Readers of one rule or another, told apart by their first token.
+-- Readers of one grammar or another, told apart by their first token.
 use Rattle.std.proofs.Common.{◌≡◌, ◌⊎◌, inl, inr, ℕ, List, [], ◌∷◌, ◌++◌, Bool, true, false, refl, ap, sym, ◌∙◌, subst}
 use Rattle.std.specs.Prelude.{if◌then◌else◌, Ok, Err}
 use Rattle.grammar_rules.specs.declared.stop.Stop.{Stop}
 use Rattle.grammar_rules.specs.Lexemes.{Lexeme, among, begins_with, no_symbol, Ended}
-use Rattle.grammar_rules.specs.Rules.{Rule, choice}
+use Rattle.grammar_rules.specs.Rules.{Grammar, choice}
 use Rattle.grammar_rules.specs.Readers.{Reading, Reader, mapped, to_left, to_right, read_choice}
 use Rattle.grammar_rules.specs.Laws.{Among, Apart, Free, Lawful, Got, StopsAt, Reads, Keeps}
 use Rattle.grammar_rules.proofs.Cuts.{among-left, among-right, if_among, either, if_true, if_false}
 use Rattle.grammar_rules.proofs.RuleLaws.{closed_first}
 use Rattle.grammar_rules.proofs.ReaderLaws.{mapped_ok, mapped_err, verdict_by}
 
--- fronts of a choice whose first token is known
-module _ (A B : Type 0) (R : Rule A) (S : Rule B) (b₁ c₁ b₂ c₂ : List ℕ) (n₂ : Bool) (first_laws : Lawful A R b₁ c₁ false) (second_laws : Lawful B S b₂ c₂ n₂) (apart : Apart b₁ b₂) where
-  -- the second rule has no front where the first begins, and the other way round
-  pub not_second : (used more : List Lexeme) (t : Lexeme) (ts : List Lexeme) → used ++ t ∷ more ≡ ts → begins_with b₁ ts ≡ true → S.front (used ++ t ∷ []) → ⊥
+-- beginnings of a choice whose first token is known
+module _ (A B : Type 0) (R : Grammar A) (S : Grammar B) (b₁ c₁ b₂ c₂ : List ℕ) (n₂ : Bool) (first_laws : Lawful A R b₁ c₁ false) (second_laws : Lawful B S b₂ c₂ n₂) (apart : Apart b₁ b₂) where
+  -- the second grammar has no beginning where the first begins, and the other way round
+  pub not_second : (used more : List Lexeme) (t : Lexeme) (ts : List Lexeme) → used ++ t ∷ more ≡ ts → begins_with b₁ ts ≡ true → S.beginning (used ++ t ∷ []) → ⊥
   not_second [] more t ts e h f = apart.none t (sym (ap (begins_with b₁) (sym e)) ∙ h) (second_laws.first t f)
   not_second (x ∷ used) more t ts e h f = apart.none x (sym (ap (begins_with b₁) (sym e)) ∙ h) (closed_first B S b₂ c₂ n₂ second_laws x (used ++ t ∷ []) f)
 
-  pub not_first : (used more : List Lexeme) (t : Lexeme) (ts : List Lexeme) → used ++ t ∷ more ≡ ts → begins_with b₁ ts ≡ false → R.front (used ++ t ∷ []) → ⊥
+  pub not_first : (used more : List Lexeme) (t : Lexeme) (ts : List Lexeme) → used ++ t ∷ more ≡ ts → begins_with b₁ ts ≡ false → R.beginning (used ++ t ∷ []) → ⊥
   not_first [] more t ts e h f = let begins = first_laws.first t f in let same : begins_with b₁ (t ∷ more) ≡ begins_with b₁ ts = ap (begins_with b₁) e in cc (begins, same, h)
   not_first (x ∷ used) more t ts e h f =
       let begins = closed_first A R b₁ c₁ false first_laws x (used ++ t ∷ []) f in
       let same : begins_with b₁ (x ∷ (used ++ t ∷ more)) ≡ begins_with b₁ ts = ap (begins_with b₁) e in cc (begins, same, h)
 
-  pub no_more_first : (used more : List Lexeme) (t : Lexeme) (ts : List Lexeme) → used ++ t ∷ more ≡ ts → begins_with b₁ ts ≡ true → (R.front (used ++ t ∷ []) → ⊥) → (choice R S).front (used ++ t ∷ []) → ⊥
+  pub no_more_first : (used more : List Lexeme) (t : Lexeme) (ts : List Lexeme) → used ++ t ∷ more ≡ ts → begins_with b₁ ts ≡ true → (R.beginning (used ++ t ∷ []) → ⊥) → (choice R S).beginning (used ++ t ∷ []) → ⊥
   no_more_first used more t ts all h over (inl f) = over f
   no_more_first used more t ts all h over (inr f) = not_second used more t ts all h f
 
-  pub no_more_second : (used more : List Lexeme) (t : Lexeme) (ts : List Lexeme) → used ++ t ∷ more ≡ ts → begins_with b₁ ts ≡ false → (S.front (used ++ t ∷ []) → ⊥) → (choice R S).front (used ++ t ∷ []) → ⊥
+  pub no_more_second : (used more : List Lexeme) (t : Lexeme) (ts : List Lexeme) → used ++ t ∷ more ≡ ts → begins_with b₁ ts ≡ false → (S.beginning (used ++ t ∷ []) → ⊥) → (choice R S).beginning (used ++ t ∷ []) → ⊥
   no_more_second used more t ts all h over (inl f) = not_first used more t ts all h f
   no_more_second used more t ts all h over (inr f) = over f
 
-module _ (A B : Type 0) (R U : Rule A) (S V : Rule B) (b₁ c₁ b₂ c₂ : List ℕ) (n₂ : Bool) (first_laws : Lawful A R b₁ c₁ false) (first_free : Lawful A U b₁ c₁ false)
+module _ (A B : Type 0) (R U : Grammar A) (S V : Grammar B) (b₁ c₁ b₂ c₂ : List ℕ) (n₂ : Bool) (first_laws : Lawful A R b₁ c₁ false) (first_free : Lawful A U b₁ c₁ false)
     (second_laws : Lawful B S b₂ c₂ n₂) (second_free : Lawful B V b₂ c₂ n₂) (apart : Apart b₁ b₂) (absent : among b₁ no_symbol ≡ false)
     (first : Reader A) (second : Reader B) (first_reads : Reads A R U c₁ first) (second_reads : Reads B S V c₂ second) where
   to_first : (ts : List Lexeme) → begins_with b₁ ts ≡ true → read_choice b₁ first second ts ≡ mapped to_left (first ts)
@@ -63,10 +63,10 @@ module _ (A B : Type 0) (R U : Rule A) (S V : Rule B) (b₁ c₁ b₂ c₂ : Lis
             over = λ t more r. no_more_second A B U V b₁ c₁ b₂ c₂ n₂ first_free second_free apart g.used more t ts (ap (λ (xs : List Lexeme). g.used ++ xs) (sym r) ∙ g.all) h (g.over t more r);
           }
 
-  choice_stopped : (ts rest : List Lexeme) (stop : Stop) → Ended ts → read_choice b₁ first second ts ≡ Err (stop, rest) → StopsAt (choice R S).front (choice U V).front ts stop rest
+  choice_stopped : (ts rest : List Lexeme) (stop : Stop) → Ended ts → read_choice b₁ first second ts ≡ Err (stop, rest) → StopsAt (choice R S).beginning (choice U V).beginning ts stop rest
   choice_stopped ts rest stop ended e = by_cases (either (begins_with b₁ ts))
     where
-      by_cases : (begins_with b₁ ts ≡ true) ⊎ (begins_with b₁ ts ≡ false) → StopsAt (choice R S).front (choice U V).front ts stop rest
+      by_cases : (begins_with b₁ ts ≡ true) ⊎ (begins_with b₁ ts ≡ false) → StopsAt (choice R S).beginning (choice U V).beginning ts stop rest
       by_cases (inl h) =
           let u = first_reads.stopped ts rest stop ended (mapped_err A (A ⊎ B) to_left (first ts) (stop, rest) (sym (to_first ts h) ∙ e)) in
           let all : u.used ++ u.token ∷ u.more ≡ ts = ap (λ (xs : List Lexeme). u.used ++ xs) (sym u.at) ∙ u.all in
@@ -78,7 +78,7 @@ module _ (A B : Type 0) (R U : Rule A) (S V : Rule B) (b₁ c₁ b₂ c₂ : Lis
             all = u.all;
             fits = inl u.fits;
             unfit = no_more_first A B R S b₁ c₁ b₂ c₂ n₂ first_laws second_laws apart u.used u.more u.token ts all h u.unfit;
-            verdict = verdict_by stop (U.front (u.used ++ u.token ∷ [])) ((choice U V).front (u.used ++ u.token ∷ [])) (λ f. inl f)
+            verdict = verdict_by stop (U.beginning (u.used ++ u.token ∷ [])) ((choice U V).beginning (u.used ++ u.token ∷ [])) (λ f. inl f)
                 (no_more_first A B U V b₁ c₁ b₂ c₂ n₂ first_free second_free apart u.used u.more u.token ts all h) u.verdict;
           }
       by_cases (inr h) =
@@ -92,7 +92,7 @@ module _ (A B : Type 0) (R U : Rule A) (S V : Rule B) (b₁ c₁ b₂ c₂ : Lis
             all = u.all;
             fits = inr u.fits;
             unfit = no_more_second A B R S b₁ c₁ b₂ c₂ n₂ first_laws second_laws apart u.used u.more u.token ts all h u.unfit;
-            verdict = verdict_by stop (V.front (u.used ++ u.token ∷ [])) ((choice U V).front (u.used ++ u.token ∷ [])) (λ f. inr f)
+            verdict = verdict_by stop (V.beginning (u.used ++ u.token ∷ [])) ((choice U V).beginning (u.used ++ u.token ∷ [])) (λ f. inr f)
                 (no_more_second A B U V b₁ c₁ b₂ c₂ n₂ first_free second_free apart u.used u.more u.token ts all h) u.verdict;
           }
 

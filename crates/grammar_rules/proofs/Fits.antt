@@ -1,9 +1,9 @@
--- Each way to join rules and their readers keeps what is known of them: a line of a grammar is one term of these.
+-- Each way to join grammars and their readers keeps what is known of them: a line of a grammar is one term of these.
 use Rattle.std.proofs.Common.{◌≡◌, ◌⊎◌, ◌<◌, ◌≤◌, ℕ, zero, suc, List, [], ◌++◌, drop, Bool, true, false, refl, sym, ◌∙◌, arith, Option}
 use Rattle.std.specs.Prelude.{◌&&◌, if◌then◌else◌, is_some, None, Ok, Err}
 use Rattle.grammar_rules.specs.declared.stop.Stop.TheVariants.{Expected}
 use Rattle.grammar_rules.specs.Lexemes.{Lexeme, among, disjoint, no_symbol, end_symbol, begins_with, first_of}
-use Rattle.grammar_rules.specs.Rules.{Rule, token, nothing, both, tree, choice, perhaps, option_of, flag, either_of, or_else, repeated, opened, within}
+use Rattle.grammar_rules.specs.Rules.{Grammar, token, nothing, both, tree, choice, perhaps, option_of, flag, either_of, or_else, repeated, opened, within}
 use Rattle.grammar_rules.specs.Readers.{Reading, Reader, mapped, to_left, to_right, to_some, read_token, read_nothing, read_both, read_tree, read_choice, read_or_else, read_perhaps, read_flag, read_repeated, read_opened, read_within}
 use Rattle.grammar_rules.specs.Laws.{Lawful, Fits}
 use Rattle.grammar_rules.proofs.Cuts.{apart_by}
@@ -16,7 +16,7 @@ use Rattle.grammar_rules.proofs.RepeatedReaders.{Reads-repeated, Keeps-repeated}
 use Rattle.grammar_rules.proofs.WithinReaders.{Reads-within, Keeps-within}
 
 -- limits that differ in more cases
-pub fits_when : {A P Q : Type 0} {R U : Rule A} {b c : List ℕ} {n : Bool} {read : Reader A} → (Q → P) → Fits A P R U b c n read → Fits A Q R U b c n read
+pub fits_when : {A P Q : Type 0} {R U : Grammar A} {b c : List ℕ} {n : Bool} {read : Reader A} → (Q → P) → Fits A P R U b c n read → Fits A Q R U b c n read
 fits_when f fits = record { laws = fits.laws; wider_laws = fits.wider_laws; under = fits.under; reads = λ q. fits.reads (f q); keeps = fits.keeps }
 
 pub fits_token : {P : Type 0} (set : List ℕ) → among set end_symbol ≡ false → among set no_symbol ≡ false → Fits Lexeme P (token set) (token set) set [] false (read_token set)
@@ -37,7 +37,7 @@ fits_nothing = record {
   keeps = Keeps-nothing;
 }
 
-pub fits_both : {A B P : Type 0} {R U : Rule A} {S V : Rule B} {b₁ c₁ b₂ c₂ : List ℕ} {n₁ n₂ : Bool} {first : Reader A} {second : Reader B}
+pub fits_both : {A B P : Type 0} {R U : Grammar A} {S V : Grammar B} {b₁ c₁ b₂ c₂ : List ℕ} {n₁ n₂ : Bool} {first : Reader A} {second : Reader B}
     → Fits A P R U b₁ c₁ n₁ first → Fits B P S V b₂ c₂ n₂ second → disjoint c₁ b₂ ≡ true
     → Fits (A × B) P (both R S) (both U V) (b₁ ++ (if n₁ then b₂ else [])) (c₂ ++ (if n₂ then c₁ else [])) (n₁ && n₂) (read_both first second)
 fits_both {A} {B} {P} {R} {U} {S} {V} {b₁} {c₁} {b₂} {c₂} {n₁} {n₂} {first} {second} one two apart = record {
@@ -48,7 +48,7 @@ fits_both {A} {B} {P} {R} {U} {S} {V} {b₁} {c₁} {b₂} {c₂} {n₁} {n₂} 
   keeps = Keeps-both A B first second one.keeps two.keeps;
 }
 
-pub fits_tree : {A B P : Type 0} {R U : Rule A} {b c : List ℕ} {n : Bool} {read : Reader A} (f : A → B) → Fits A P R U b c n read → Fits B P (tree f R) (tree f U) b c n (read_tree f read)
+pub fits_tree : {A B P : Type 0} {R U : Grammar A} {b c : List ℕ} {n : Bool} {read : Reader A} (f : A → B) → Fits A P R U b c n read → Fits B P (tree f R) (tree f U) b c n (read_tree f read)
 fits_tree {A} {B} {P} {R} {U} {b} {c} {n} {read} f one = record {
   laws = Lawful-tree A B f R b c n one.laws;
   wider_laws = Lawful-tree A B f U b c n one.wider_laws;
@@ -57,7 +57,7 @@ fits_tree {A} {B} {P} {R} {U} {b} {c} {n} {read} f one = record {
   keeps = Keeps-tree A B f read one.keeps;
 }
 
-pub fits_choice : {A B P : Type 0} {R U : Rule A} {S V : Rule B} {b₁ c₁ b₂ c₂ : List ℕ} {n₂ : Bool} {first : Reader A} {second : Reader B}
+pub fits_choice : {A B P : Type 0} {R U : Grammar A} {S V : Grammar B} {b₁ c₁ b₂ c₂ : List ℕ} {n₂ : Bool} {first : Reader A} {second : Reader B}
     → Fits A P R U b₁ c₁ false first → Fits B P S V b₂ c₂ n₂ second → disjoint b₁ b₂ ≡ true → among b₁ no_symbol ≡ false
     → Fits (A ⊎ B) P (choice R S) (choice U V) (b₁ ++ b₂) ((c₁ ++ c₂) ++ (if n₂ then b₁ else [])) n₂ (read_choice b₁ first second)
 fits_choice {A} {B} {P} {R} {U} {S} {V} {b₁} {c₁} {b₂} {c₂} {n₂} {first} {second} one two apart absent = record {
@@ -69,7 +69,7 @@ fits_choice {A} {B} {P} {R} {U} {S} {V} {b₁} {c₁} {b₂} {c₂} {n₂} {firs
 }
 
 -- a reader that always reads the same
-pub fits_read : {A P : Type 0} {R U : Rule A} {b c : List ℕ} {n : Bool} {read other : Reader A} → ((ts : List Lexeme) → other ts ≡ read ts) → Fits A P R U b c n read
+pub fits_read : {A P : Type 0} {R U : Grammar A} {b c : List ℕ} {n : Bool} {read other : Reader A} → ((ts : List Lexeme) → other ts ≡ read ts) → Fits A P R U b c n read
     → Fits A P R U b c n other
 fits_read {A} {P} {R} {U} {b} {c} {n} {read} {other} same one = record {
   laws = one.laws;
@@ -88,7 +88,7 @@ read_perhaps-choice true (Ok read) ts = refl
 read_perhaps-choice true (Err stop) ts = refl
 read_perhaps-choice false read ts = refl
 
-pub fits_perhaps : {A P : Type 0} {R U : Rule A} {b c : List ℕ} {read : Reader A} → Fits A P R U b c false read → disjoint b [] ≡ true → among b no_symbol ≡ false
+pub fits_perhaps : {A P : Type 0} {R U : Grammar A} {b c : List ℕ} {read : Reader A} → Fits A P R U b c false read → disjoint b [] ≡ true → among b no_symbol ≡ false
     → Fits (Option A) P (perhaps R) (perhaps U) (b ++ []) ((c ++ []) ++ b) true (read_perhaps b read)
 fits_perhaps {A} {P} {R} {U} {b} {c} {read} one apart absent =
     fits_read (λ ts. read_perhaps-choice (begins_with b ts) (read ts) ts) (fits_tree option_of (fits_choice one fits_nothing apart absent))
@@ -109,13 +109,13 @@ read_or_else-choice true (Err stop) second = refl
 read_or_else-choice false first (Ok read) = refl
 read_or_else-choice false first (Err stop) = refl
 
-pub fits_or_else : {A P : Type 0} {R U S V : Rule A} {b₁ c₁ b₂ c₂ : List ℕ} {n₂ : Bool} {first second : Reader A}
+pub fits_or_else : {A P : Type 0} {R U S V : Grammar A} {b₁ c₁ b₂ c₂ : List ℕ} {n₂ : Bool} {first second : Reader A}
     → Fits A P R U b₁ c₁ false first → Fits A P S V b₂ c₂ n₂ second → disjoint b₁ b₂ ≡ true → among b₁ no_symbol ≡ false
     → Fits A P (or_else R S) (or_else U V) (b₁ ++ b₂) ((c₁ ++ c₂) ++ (if n₂ then b₁ else [])) n₂ (read_or_else b₁ first second)
 fits_or_else {A} {P} {R} {U} {S} {V} {b₁} {c₁} {b₂} {c₂} {n₂} {first} {second} one two apart absent =
     fits_read (λ ts. read_or_else-choice (begins_with b₁ ts) (first ts) (second ts)) (fits_tree either_of (fits_choice one two apart absent))
 
-pub fits_repeated : {A P : Type 0} {R U : Rule A} {b c : List ℕ} {read : Reader A} → Fits A P R U b c false read → disjoint c b ≡ true → among b no_symbol ≡ false
+pub fits_repeated : {A P : Type 0} {R U : Grammar A} {b c : List ℕ} {read : Reader A} → Fits A P R U b c false read → disjoint c b ≡ true → among b no_symbol ≡ false
     → Fits (List A) P (repeated R) (repeated U) b (c ++ b) true (read_repeated b read)
 fits_repeated {A} {P} {R} {U} {b} {c} {read} one apart absent = record {
   laws = Lawful-repeated A R b c one.laws (apart_by c b apart);
@@ -125,7 +125,7 @@ fits_repeated {A} {P} {R} {U} {b} {c} {read} one apart absent = record {
   keeps = Keeps-repeated A b read one.keeps;
 }
 
-pub fits_within : {A P : Type 0} {R U : Rule A} {b c : List ℕ} {n : Bool} {read : Reader A} (most more : ℕ) → most ≤ more → (P → most < more) → Fits A P R U b c n read
+pub fits_within : {A P : Type 0} {R U : Grammar A} {b c : List ℕ} {n : Bool} {read : Reader A} (most more : ℕ) → most ≤ more → (P → most < more) → Fits A P R U b c n read
     → Fits A P (within most R) (within more U) b c n (read_within most read)
 fits_within {A} {P} {R} {U} {b} {c} {n} {read} most more le less one = record {
   laws = Lawful-within A R b c n most one.laws;
@@ -135,8 +135,8 @@ fits_within {A} {P} {R} {U} {b} {c} {n} {read} most more le less one = record {
   keeps = Keeps-within A most read one.keeps;
 }
 
--- a token that opens what a rule gives: what is known of the rule where something may still be opened, and of the wider one
-pub fits_opened : {A P : Type 0} {R U : Rule A} {b c : List ℕ} {n : Bool} {read : Reader A} (left more : ℕ) (set : List ℕ) → left ≤ more → (P → left < more)
+-- a token that opens what a grammar gives: what is known of the grammar where something may still be opened, and of the wider one
+pub fits_opened : {A P : Type 0} {R U : Grammar A} {b c : List ℕ} {n : Bool} {read : Reader A} (left more : ℕ) (set : List ℕ) → left ≤ more → (P → left < more)
     → among set end_symbol ≡ false → among set no_symbol ≡ false → (0 < more → Lawful A U b c n) → (0 < left → Fits A P R U b c n read)
     → Fits (Lexeme × A) P (opened left set R) (opened more set U) (set ++ []) (c ++ (if n then [] else [])) false (read_opened left set read)
 fits_opened {A} {P} {R} {U} {b} {c} {n} {read} zero zero set le less no_end absent wider inside = record {

@@ -1,13 +1,13 @@
--- A rule with the place of its first token.
+-- A grammar with the place of its first token.
 use Rattle.std.proofs.Common.{◌≡◌, ℕ, List, [], ◌∷◌, ◌++◌, Bool, false, refl, ap, sym, ◌∙◌, subst}
 use Rattle.std.specs.Prelude.{Ok}
 use Rattle.grammar_rules.specs.Lexemes.{Lexeme, first_place}
-use Rattle.grammar_rules.specs.Rules.{Rule, placed}
+use Rattle.grammar_rules.specs.Rules.{Grammar, placed}
 use Rattle.grammar_rules.specs.Readers.{Reading, Reader, mapped, with_place, read_placed}
 use Rattle.grammar_rules.specs.Laws.{Free, Lawful, Got, Reads, Fits}
 use Rattle.grammar_rules.proofs.ReaderLaws.{mapped_ok, mapped_err}
 
-module _ (A : Type 0) (R U : Rule A) (b c : List ℕ) (laws : Lawful A R b c false) where
+module _ (A : Type 0) (R U : Grammar A) (b c : List ℕ) (laws : Lawful A R b c false) where
   same_place : (used rest ts : List Lexeme) (a : A) → R.whole used a → used ++ rest ≡ ts → first_place ts ≡ first_place used
   same_place [] rest ts a w e = absurd (cc (laws.none a w))
   same_place (t ∷ used) rest ts a w e = ap first_place (sym e)
@@ -33,7 +33,7 @@ module _ (A : Type 0) (R U : Rule A) (b c : List ℕ) (laws : Lawful A R b c fal
       complete = placed_complete;
     }
 
-pub Lawful-placed : (A : Type 0) (R : Rule A) (b c : List ℕ) (n : Bool) → Lawful A R b c n → Lawful (ℕ × A) (placed R) b c n
+pub Lawful-placed : (A : Type 0) (R : Grammar A) (b c : List ℕ) (n : Bool) → Lawful A R b c n → Lawful (ℕ × A) (placed R) b c n
 Lawful-placed A R b c n laws = record {
   empty = laws.empty;
   closed = laws.closed;
@@ -43,14 +43,14 @@ Lawful-placed A R b c n laws = record {
   none = λ pair w. laws.none pair.1 w.1;
 }
 
--- a rule that isn't nothing, with the place of its first token
-pub fits_placed : {A P : Type 0} {R U : Rule A} {b c : List ℕ} {read : Reader A} → Fits A P R U b c false read → Fits (ℕ × A) P (placed R) (placed U) b c false (read_placed read)
+-- a grammar that isn't nothing, with the place of its first token
+pub fits_placed : {A P : Type 0} {R U : Grammar A} {b c : List ℕ} {read : Reader A} → Fits A P R U b c false read → Fits (ℕ × A) P (placed R) (placed U) b c false (read_placed read)
 fits_placed {A} {P} {R} {U} {b} {c} {read} one = record {
   laws = Lawful-placed A R b c false one.laws;
   wider_laws = Lawful-placed A U b c false one.wider_laws;
   under = record {
     whole = λ ts pair w. (w.0, one.under.whole ts pair.1 w.1);
-    front = one.under.front;
+    beginning = one.under.beginning;
     solid = λ ts pair w f. (w.0, one.under.solid ts pair.1 w.1 f);
   };
   reads = λ p. Reads-placed A R U b c one.laws read (one.reads p);

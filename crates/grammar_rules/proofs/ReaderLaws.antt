@@ -1,4 +1,4 @@
--- Readers that read a rule within limits: what they take is whole, they take all that they can, and they stop at the
+-- Readers that read a grammar within limits: what they take is whole, they take all that they can, and they stop at the
 -- first token that doesn't fit. Each way to join readers keeps this.
 use Rattle.std.proofs.Common.{◌≡◌, ◌⊎◌, inl, inr, ℕ, List, [], ◌∷◌, ◌++◌, Bool, refl, ap, sym, ◌∙◌, subst, append_assoc}
 use Rattle.std.proofs.lemmas.List.{append-nil}
@@ -6,7 +6,7 @@ use Rattle.std.specs.Prelude.{if◌then◌else◌, Ok, Err}
 use Rattle.grammar_rules.specs.declared.stop.Stop.{Stop}
 use Rattle.grammar_rules.specs.declared.stop.Stop.TheVariants.{Expected, Deep, Memory}
 use Rattle.grammar_rules.specs.Lexemes.{Lexeme, Ended}
-use Rattle.grammar_rules.specs.Rules.{Rule, both, tree}
+use Rattle.grammar_rules.specs.Rules.{Grammar, both, tree}
 use Rattle.grammar_rules.specs.Readers.{Reading, Reader, mapped, paired, then_read, read_both, read_tree}
 use Rattle.grammar_rules.specs.Laws.{Among, Apart, Free, Lawful, Under, Got, IsVerdict, StopsAt, Reads, Keeps}
 use Rattle.grammar_rules.proofs.Cuts.{among-left, among-right, if_among, Behind, Before, cuts, some_end, first_same}
@@ -63,69 +63,69 @@ verdict_by Expected P Q to refuted v = refuted v
 verdict_by Deep P Q to refuted v = to v
 verdict_by Memory P Q to refuted v = v
 
--- ---- one rule and then another
+-- ---- one grammar and then another
 
--- behind a whole that can't go on only the second rule matters
-module _ (A B : Type 0) (R : Rule A) (S : Rule B) (b₁ c₁ b₂ c₂ : List ℕ) (n₁ n₂ : Bool) (first_laws : Lawful A R b₁ c₁ n₁) (second_laws : Lawful B S b₂ c₂ n₂) (apart : Apart c₁ b₂) where
-  pub no_front : (left right : List Lexeme) (a : A) (t : Lexeme) → R.whole left a → ((z : Lexeme) (zs : List Lexeme) → right ++ t ∷ [] ≡ z ∷ zs → R.front (left ++ z ∷ []) → ⊥)
-      → (S.front (right ++ t ∷ []) → ⊥) → (both R S).front ((left ++ right) ++ t ∷ []) → ⊥
-  no_front left right a t w over unfit (inl f) =
+-- behind a whole that can't go on only the second grammar matters
+module _ (A B : Type 0) (R : Grammar A) (S : Grammar B) (b₁ c₁ b₂ c₂ : List ℕ) (n₁ n₂ : Bool) (first_laws : Lawful A R b₁ c₁ n₁) (second_laws : Lawful B S b₂ c₂ n₂) (apart : Apart c₁ b₂) where
+  pub no_beginning : (left right : List Lexeme) (a : A) (t : Lexeme) → R.whole left a → ((z : Lexeme) (zs : List Lexeme) → right ++ t ∷ [] ≡ z ∷ zs → R.beginning (left ++ z ∷ []) → ⊥)
+      → (S.beginning (right ++ t ∷ []) → ⊥) → (both R S).beginning ((left ++ right) ++ t ∷ []) → ⊥
+  no_beginning left right a t w over unfit (inl f) =
       let end = some_end right t in
       let e : (left ++ right) ++ t ∷ [] ≡ left ++ end.0 ∷ end.1 = append_assoc left right (t ∷ []) ∙ ap (λ (ts : List Lexeme). left ++ ts) end.2 in
-      over end.0 end.1 end.2 (closed_at A R b₁ c₁ n₁ first_laws left end.0 end.1 (subst (λ (ts : List Lexeme). R.front ts) e f))
-  no_front left right a t w over unfit (inr s) = by_cases (cuts s.0 s.1 left (right ++ t ∷ []) (s.3 ∙ append_assoc left right (t ∷ [])))
+      over end.0 end.1 end.2 (closed_at A R b₁ c₁ n₁ first_laws left end.0 end.1 (subst (λ (ts : List Lexeme). R.beginning ts) e f))
+  no_beginning left right a t w over unfit (inr s) = by_cases (cuts s.0 s.1 left (right ++ t ∷ []) (s.3 ∙ append_assoc left right (t ∷ [])))
     where
       behind : (more : List Lexeme) → s.0 ≡ left ++ more → right ++ t ∷ [] ≡ more ++ s.1 → ⊥
-      behind [] l e = unfit (subst (λ (ts : List Lexeme). S.front ts) (sym e) s.5)
-      behind (m ∷ more) l e = over m (more ++ s.1) e (closed_at A R b₁ c₁ n₁ first_laws left m more (subst (λ (ts : List Lexeme). R.front ts) l (first_laws.begun s.0 s.2 s.4)))
+      behind [] l e = unfit (subst (λ (ts : List Lexeme). S.beginning ts) (sym e) s.5)
+      behind (m ∷ more) l e = over m (more ++ s.1) e (closed_at A R b₁ c₁ n₁ first_laws left m more (subst (λ (ts : List Lexeme). R.beginning ts) l (first_laws.begun s.0 s.2 s.4)))
 
       by_cases : Behind s.0 s.1 left (right ++ t ∷ []) ⊎ Before s.0 s.1 left (right ++ t ∷ []) → ⊥
       by_cases (inl b) = behind b.more b.left_is b.ys_is
       by_cases (inr b) = no_cut_before A B R S b₁ c₁ b₂ c₂ n₁ n₂ first_laws second_laws apart s.0 s.1 left (right ++ t ∷ []) s.2 a s.4 s.5 w b
 
-  -- a token that can't go on with a front of the first rule, which isn't whole where the second can begin with it
-  pub no_front_first : (used : List Lexeme) (t : Lexeme) → R.front used → (R.front (used ++ t ∷ []) → ⊥) → ((a : A) → R.whole used a → S.front (t ∷ []) → ⊥) → (both R S).front (used ++ t ∷ []) → ⊥
-  no_front_first used t fits unfit no_whole (inl f) = unfit f
-  no_front_first used t fits unfit no_whole (inr s) = by_cases (cuts s.0 s.1 used (t ∷ []) s.3)
+  -- a token that can't go on with a beginning of the first grammar, which isn't whole where the second can begin with it
+  pub no_beginning_first : (used : List Lexeme) (t : Lexeme) → R.beginning used → (R.beginning (used ++ t ∷ []) → ⊥) → ((a : A) → R.whole used a → S.beginning (t ∷ []) → ⊥) → (both R S).beginning (used ++ t ∷ []) → ⊥
+  no_beginning_first used t fits unfit no_whole (inl f) = unfit f
+  no_beginning_first used t fits unfit no_whole (inr s) = by_cases (cuts s.0 s.1 used (t ∷ []) s.3)
     where
       behind : (more : List Lexeme) → s.0 ≡ used ++ more → t ∷ [] ≡ more ++ s.1 → ⊥
       behind [] l r =
-          no_whole s.2 (subst (λ (xs : List Lexeme). R.whole xs s.2) (l ∙ append-nil used) s.4) (subst (λ (xs : List Lexeme). S.front xs) (sym r) s.5)
+          no_whole s.2 (subst (λ (xs : List Lexeme). R.whole xs s.2) (l ∙ append-nil used) s.4) (subst (λ (xs : List Lexeme). S.beginning xs) (sym r) s.5)
       behind (m ∷ more) l r =
           let same : m ≡ t = cc in
-          unfit (subst (λ (x : Lexeme). R.front (used ++ x ∷ [])) same (closed_at A R b₁ c₁ n₁ first_laws used m more (subst (λ (xs : List Lexeme). R.front xs) l (first_laws.begun s.0 s.2 s.4))))
+          unfit (subst (λ (x : Lexeme). R.beginning (used ++ x ∷ [])) same (closed_at A R b₁ c₁ n₁ first_laws used m more (subst (λ (xs : List Lexeme). R.beginning xs) l (first_laws.begun s.0 s.2 s.4))))
 
       before : Before s.0 s.1 used (t ∷ []) → ⊥
       before b =
           apart.none b.next
-          (first_laws.next s.0 s.2 b.next s.4 (closed_at A R b₁ c₁ n₁ first_laws s.0 b.next b.more (subst (λ (xs : List Lexeme). R.front xs) b.xs_is fits)))
-          (closed_first B S b₂ c₂ n₂ second_laws b.next (b.more ++ t ∷ []) (subst (λ (xs : List Lexeme). S.front xs) b.right_is s.5))
+          (first_laws.next s.0 s.2 b.next s.4 (closed_at A R b₁ c₁ n₁ first_laws s.0 b.next b.more (subst (λ (xs : List Lexeme). R.beginning xs) b.xs_is fits)))
+          (closed_first B S b₂ c₂ n₂ second_laws b.next (b.more ++ t ∷ []) (subst (λ (xs : List Lexeme). S.beginning xs) b.right_is s.5))
 
       by_cases : Behind s.0 s.1 used (t ∷ []) ⊎ Before s.0 s.1 used (t ∷ []) → ⊥
       by_cases (inl b) = behind b.more b.left_is b.ys_is
       by_cases (inr b) = before b
 
-module _ (A B : Type 0) (R U : Rule A) (S V : Rule B) (b₁ c₁ b₂ c₂ : List ℕ) (n₁ n₂ : Bool) (first_laws : Lawful A R b₁ c₁ n₁) (first_free : Lawful A U b₁ c₁ n₁)
+module _ (A B : Type 0) (R U : Grammar A) (S V : Grammar B) (b₁ c₁ b₂ c₂ : List ℕ) (n₁ n₂ : Bool) (first_laws : Lawful A R b₁ c₁ n₁) (first_free : Lawful A U b₁ c₁ n₁)
     (second_laws : Lawful B S b₂ c₂ n₂) (second_free : Lawful B V b₂ c₂ n₂) (apart : Apart c₁ b₂) (first_under : Under A R U) (second_under : Under B S V)
     (first : Reader A) (first_reads : Reads A R U c₁ first) where
-  -- a whole of the first rule would have been read where the second can go on
+  -- a whole of the first grammar would have been read where the second can go on
   no_whole : (ts rest : List Lexeme) (stop : Stop) (used more : List Lexeme) (t : Lexeme) (a : A) → first ts ≡ Err (stop, rest) → used ++ rest ≡ ts → rest ≡ t ∷ more → R.whole used a → Among b₂ t → ⊥
   no_whole ts rest stop used more t a e all at w s =
       let free : Free c₁ rest = record { free = λ u others r c. let same : t ≡ u = cc in apart.none u c (subst (λ (x : Lexeme). Among b₂ x) same s) } in
       let read = sym (ap first (sym all) ∙ first_reads.complete used rest a w free) ∙ e in
       cc (read)
 
-  unfit_first : (ts rest : List Lexeme) (stop : Stop) → first ts ≡ Err (stop, rest) → (u : StopsAt R.front U.front ts stop rest) → (both R S).front (u.used ++ u.token ∷ []) → ⊥
+  unfit_first : (ts rest : List Lexeme) (stop : Stop) → first ts ≡ Err (stop, rest) → (u : StopsAt R.beginning U.beginning ts stop rest) → (both R S).beginning (u.used ++ u.token ∷ []) → ⊥
   unfit_first ts rest stop e u f =
-      no_front_first A B R S b₁ c₁ b₂ c₂ n₁ n₂ first_laws second_laws apart u.used u.token u.fits u.unfit
+      no_beginning_first A B R S b₁ c₁ b₂ c₂ n₁ n₂ first_laws second_laws apart u.used u.token u.fits u.unfit
       (λ a w s. no_whole ts rest stop u.used u.more u.token a e u.all u.at w (second_laws.first u.token s)) f
 
-  unlimited_first : (ts rest : List Lexeme) (stop : Stop) → first ts ≡ Err (stop, rest) → (u : StopsAt R.front U.front ts stop rest) → (U.front (u.used ++ u.token ∷ []) → ⊥) → (both U V).front (u.used ++ u.token ∷ []) → ⊥
+  unlimited_first : (ts rest : List Lexeme) (stop : Stop) → first ts ≡ Err (stop, rest) → (u : StopsAt R.beginning U.beginning ts stop rest) → (U.beginning (u.used ++ u.token ∷ []) → ⊥) → (both U V).beginning (u.used ++ u.token ∷ []) → ⊥
   unlimited_first ts rest stop e u unfit f =
-      no_front_first A B U V b₁ c₁ b₂ c₂ n₁ n₂ first_free second_free apart u.used u.token (first_under.front u.used u.fits) unfit
+      no_beginning_first A B U V b₁ c₁ b₂ c₂ n₁ n₂ first_free second_free apart u.used u.token (first_under.beginning u.used u.fits) unfit
       (λ a w s. no_whole ts rest stop u.used u.more u.token a e u.all u.at (first_under.solid u.used a w u.fits) (second_free.first u.token s)) f
 
-  pub first_stopped : (ts rest : List Lexeme) (stop : Stop) → first ts ≡ Err (stop, rest) → StopsAt R.front U.front ts stop rest → StopsAt (both R S).front (both U V).front ts stop rest
+  pub first_stopped : (ts rest : List Lexeme) (stop : Stop) → first ts ≡ Err (stop, rest) → StopsAt R.beginning U.beginning ts stop rest → StopsAt (both R S).beginning (both U V).beginning ts stop rest
   first_stopped ts rest stop e u = record {
     used = u.used;
     token = u.token;
@@ -134,10 +134,10 @@ module _ (A B : Type 0) (R U : Rule A) (S V : Rule B) (b₁ c₁ b₂ c₂ : Lis
     all = u.all;
     fits = inl u.fits;
     unfit = unfit_first ts rest stop e u;
-    verdict = verdict_by stop (U.front (u.used ++ u.token ∷ [])) ((both U V).front (u.used ++ u.token ∷ [])) (λ f. inl f) (unlimited_first ts rest stop e u) u.verdict;
+    verdict = verdict_by stop (U.beginning (u.used ++ u.token ∷ [])) ((both U V).beginning (u.used ++ u.token ∷ [])) (λ f. inl f) (unlimited_first ts rest stop e u) u.verdict;
   }
 
-  pub second_stopped : (ts middle rest : List Lexeme) (a : A) (stop : Stop) → Got A R U ts a middle → StopsAt S.front V.front middle stop rest → StopsAt (both R S).front (both U V).front ts stop rest
+  pub second_stopped : (ts middle rest : List Lexeme) (a : A) (stop : Stop) → Got A R U ts a middle → StopsAt S.beginning V.beginning middle stop rest → StopsAt (both R S).beginning (both U V).beginning ts stop rest
   second_stopped ts middle rest a stop one u = record {
     used = one.used ++ u.used;
     token = u.token;
@@ -145,14 +145,14 @@ module _ (A B : Type 0) (R U : Rule A) (S V : Rule B) (b₁ c₁ b₂ c₂ : Lis
     at = u.at;
     all = append_assoc one.used u.used rest ∙ ap (λ (xs : List Lexeme). one.used ++ xs) u.all ∙ one.all;
     fits = inr (one.used, u.used, a, refl, one.whole, u.fits);
-    unfit = no_front A B R S b₁ c₁ b₂ c₂ n₁ n₂ first_laws second_laws apart one.used u.used a u.token one.whole
-        (λ z zs cut f. over z zs cut (first_under.front (one.used ++ z ∷ []) f)) u.unfit;
-    verdict = verdict_by stop (V.front (u.used ++ u.token ∷ [])) ((both U V).front ((one.used ++ u.used) ++ u.token ∷ []))
+    unfit = no_beginning A B R S b₁ c₁ b₂ c₂ n₁ n₂ first_laws second_laws apart one.used u.used a u.token one.whole
+        (λ z zs cut f. over z zs cut (first_under.beginning (one.used ++ z ∷ []) f)) u.unfit;
+    verdict = verdict_by stop (V.beginning (u.used ++ u.token ∷ [])) ((both U V).beginning ((one.used ++ u.used) ++ u.token ∷ []))
         (λ f. inr (one.used, u.used ++ u.token ∷ [], a, sym (append_assoc one.used u.used (u.token ∷ [])), first_under.whole one.used a one.whole, f))
-        (λ refuted. no_front A B U V b₁ c₁ b₂ c₂ n₁ n₂ first_free second_free apart one.used u.used a u.token (first_under.whole one.used a one.whole) over refuted) u.verdict;
+        (λ refuted. no_beginning A B U V b₁ c₁ b₂ c₂ n₁ n₂ first_free second_free apart one.used u.used a u.token (first_under.whole one.used a one.whole) over refuted) u.verdict;
   }
     where
-      over : (z : Lexeme) (zs : List Lexeme) → u.used ++ u.token ∷ [] ≡ z ∷ zs → U.front (one.used ++ z ∷ []) → ⊥
+      over : (z : Lexeme) (zs : List Lexeme) → u.used ++ u.token ∷ [] ≡ z ∷ zs → U.beginning (one.used ++ z ∷ []) → ⊥
       over z zs cut =
           let w = first_same u.used u.more u.token z zs cut in
           one.over z w.0 (sym u.all ∙ ap (λ (xs : List Lexeme). u.used ++ xs) u.at ∙ w.1)
@@ -163,12 +163,12 @@ module _ (A B : Type 0) (R U : Rule A) (S V : Rule B) (b₁ c₁ b₂ c₂ : Lis
     all = append_assoc one.used two.used rest ∙ ap (λ (xs : List Lexeme). one.used ++ xs) two.all ∙ one.all;
     whole = (one.used, two.used, refl, one.whole, two.whole);
     over = λ t more r f.
-        no_front A B U V b₁ c₁ b₂ c₂ n₁ n₂ first_free second_free apart one.used two.used a t (first_under.whole one.used a one.whole)
+        no_beginning A B U V b₁ c₁ b₂ c₂ n₁ n₂ first_free second_free apart one.used two.used a t (first_under.whole one.used a one.whole)
         (λ z zs cut. let w = first_same two.used more t z zs cut in one.over z w.0 (sym two.all ∙ ap (λ (xs : List Lexeme). two.used ++ xs) r ∙ w.1))
         (two.over t more r) f;
   }
 
-module _ (A B : Type 0) (R U : Rule A) (S V : Rule B) (b₁ c₁ b₂ c₂ : List ℕ) (n₁ n₂ : Bool) (first_laws : Lawful A R b₁ c₁ n₁) (first_free : Lawful A U b₁ c₁ n₁)
+module _ (A B : Type 0) (R U : Grammar A) (S V : Grammar B) (b₁ c₁ b₂ c₂ : List ℕ) (n₁ n₂ : Bool) (first_laws : Lawful A R b₁ c₁ n₁) (first_free : Lawful A U b₁ c₁ n₁)
     (second_laws : Lawful B S b₂ c₂ n₂) (second_free : Lawful B V b₂ c₂ n₂) (apart : Apart c₁ b₂) (first_under : Under A R U) (second_under : Under B S V)
     (first : Reader A) (second : Reader B) (first_reads : Reads A R U c₁ first) (second_reads : Reads B S V c₂ second) (first_keeps : Keeps A first) where
   pair_got : (ts rest : List Lexeme) (pair : A × B) → read_both first second ts ≡ Ok (pair, rest) → Got (A × B) (both R S) (both U V) ts pair rest
@@ -177,10 +177,10 @@ module _ (A B : Type 0) (R U : Rule A) (S V : Rule B) (b₁ c₁ b₂ c₂ : Lis
       both_got A B R U S V b₁ c₁ b₂ c₂ n₁ n₂ first_laws first_free second_laws second_free apart first_under second_under first first_reads ts steps.0 rest pair.0 pair.1
       (first_reads.got ts steps.0 pair.0 steps.1) (second_reads.got steps.0 rest pair.1 steps.2)
 
-  pair_stopped : (ts rest : List Lexeme) (stop : Stop) → Ended ts → read_both first second ts ≡ Err (stop, rest) → StopsAt (both R S).front (both U V).front ts stop rest
+  pair_stopped : (ts rest : List Lexeme) (stop : Stop) → Ended ts → read_both first second ts ≡ Err (stop, rest) → StopsAt (both R S).beginning (both U V).beginning ts stop rest
   pair_stopped ts rest stop ended e = by_cases (both_err A B second (first ts) (stop, rest) e)
     where
-      by_cases : (first ts ≡ Err (stop, rest)) ⊎ ((a : A) × (middle : List Lexeme) × (first ts ≡ Ok (a, middle)) × (second middle ≡ Err (stop, rest))) → StopsAt (both R S).front (both U V).front ts stop rest
+      by_cases : (first ts ≡ Err (stop, rest)) ⊎ ((a : A) × (middle : List Lexeme) × (first ts ≡ Ok (a, middle)) × (second middle ≡ Err (stop, rest))) → StopsAt (both R S).beginning (both U V).beginning ts stop rest
       by_cases (inl f) =
           first_stopped A B R U S V b₁ c₁ b₂ c₂ n₁ n₂ first_laws first_free second_laws second_free apart first_under second_under first first_reads ts rest stop f (first_reads.stopped ts rest stop ended f)
       by_cases (inr s) =
@@ -213,7 +213,7 @@ Keeps-both A B first second first_keeps second_keeps = record {
 
 -- ---- other trees
 
-module _ (A B : Type 0) (f : A → B) (R U : Rule A) (c : List ℕ) (read : Reader A) (reads : Reads A R U c read) where
+module _ (A B : Type 0) (f : A → B) (R U : Grammar A) (c : List ℕ) (read : Reader A) (reads : Reads A R U c read) where
   tree_got : (ts rest : List Lexeme) (b : B) → mapped f (read ts) ≡ Ok (b, rest) → Got B (tree f R) (tree f U) ts b rest
   tree_got ts rest b e =
       let r = mapped_ok A B f (read ts) b rest e in

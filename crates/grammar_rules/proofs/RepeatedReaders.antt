@@ -1,14 +1,14 @@
--- A reader of a rule any number of times.
+-- A reader of a grammar any number of times.
 use Rattle.std.proofs.Common.{◌≡◌, ◌⊎◌, inl, inr, ◌<◌, ◌≤◌, ℕ, zero, suc, List, [], ◌∷◌, ◌++◌, length, length-append, true, false, refl, ap, sym, ◌∙◌, subst, append_assoc, arith}
 use Rattle.std.specs.Prelude.{Ok, Err}
 use Rattle.grammar_rules.specs.declared.stop.Stop.{Stop}
 use Rattle.grammar_rules.specs.Lexemes.{Lexeme, among, begins_with, no_symbol, Ended}
-use Rattle.grammar_rules.specs.Rules.{Rule, both, times, repeated, cons_of}
+use Rattle.grammar_rules.specs.Rules.{Grammar, both, times, repeated, cons_of}
 use Rattle.grammar_rules.specs.Readers.{Reading, Reader, mapped, paired, then_read, read_times, read_repeated}
 use Rattle.grammar_rules.specs.Laws.{Among, Apart, Free, Lawful, Under, Got, StopsAt, Reads, Keeps}
 use Rattle.grammar_rules.proofs.Cuts.{among-left, among-right, either, if_true, if_false, nothing_right, first_same}
 use Rattle.grammar_rules.proofs.RuleLaws.{closed_first, Lawful-times}
-use Rattle.grammar_rules.proofs.ReaderLaws.{mapped_ok, mapped_err, both_ok, both_err, no_front, no_front_first, verdict_by}
+use Rattle.grammar_rules.proofs.ReaderLaws.{mapped_ok, mapped_err, both_ok, both_err, no_beginning, no_beginning_first, verdict_by}
 
 module _ (A : Type 0) (b : List ℕ) (read : Reader A) where
   abbrev stopped_at : List Lexeme → Reading (List A)
@@ -45,7 +45,7 @@ module _ (A : Type 0) (b : List ℕ) (read : Reader A) where
     pub Keeps-repeated : Keeps (List A) (read_repeated b read)
     Keeps-repeated = record { ended = λ ts rest trees ended e. times_keeps (length ts) ts rest trees ended e }
 
-module _ (A : Type 0) (R U : Rule A) (b c : List ℕ) (laws : Lawful A R b c false) (unlimited : Lawful A U b c false) (apart : Apart c b) (under : Under A R U) (absent : among b no_symbol ≡ false)
+module _ (A : Type 0) (R U : Grammar A) (b c : List ℕ) (laws : Lawful A R b c false) (unlimited : Lawful A U b c false) (apart : Apart c b) (under : Under A R U) (absent : among b no_symbol ≡ false)
     (read : Reader A) (reads : Reads A R U c read) where
   -- an item takes a token
   pub shorter : (ts rest : List Lexeme) (a : A) → read ts ≡ Ok (a, rest) → length rest < length ts
@@ -67,26 +67,26 @@ module _ (A : Type 0) (R U : Rule A) (b c : List ℕ) (laws : Lawful A R b c fal
   }
 
   -- behind an item that can't go on only the later items matter
-  behind_item : (P : Rule A) (laws' : Lawful A P b c false) (left right : List Lexeme) (a : A) (t : Lexeme) → P.whole left a
-      → ((z : Lexeme) (zs : List Lexeme) → right ++ t ∷ [] ≡ z ∷ zs → P.front (left ++ z ∷ []) → ⊥) → ((repeated P).front (right ++ t ∷ []) → ⊥) → (repeated P).front ((left ++ right) ++ t ∷ []) → ⊥
+  behind_item : (P : Grammar A) (laws' : Lawful A P b c false) (left right : List Lexeme) (a : A) (t : Lexeme) → P.whole left a
+      → ((z : Lexeme) (zs : List Lexeme) → right ++ t ∷ [] ≡ z ∷ zs → P.beginning (left ++ z ∷ []) → ⊥) → ((repeated P).beginning (right ++ t ∷ []) → ⊥) → (repeated P).beginning ((left ++ right) ++ t ∷ []) → ⊥
   behind_item P laws' left right a t w over unfit f = cut f.0 f.1
     where
-      cut : (n : ℕ) → (times n P).front ((left ++ right) ++ t ∷ []) → ⊥
+      cut : (n : ℕ) → (times n P).beginning ((left ++ right) ++ t ∷ []) → ⊥
       cut zero f = cc (nothing_right (left ++ right) (t ∷ []) f)
       cut (suc n) (inl f) = cc (nothing_right (left ++ right) (t ∷ []) f)
       cut (suc n) (inr f) =
-          no_front A (List A) P (times n P) b c b (c ++ b) false true laws' (Lawful-times A P b c laws' apart n) apart left right a t w over (λ g. unfit (n, g)) f
+          no_beginning A (List A) P (times n P) b c b (c ++ b) false true laws' (Lawful-times A P b c laws' apart n) apart left right a t w over (λ g. unfit (n, g)) f
 
   -- an item that stops
-  in_item : (P : Rule A) (laws' : Lawful A P b c false) (used : List Lexeme) (t : Lexeme) → P.front used → (P.front (used ++ t ∷ []) → ⊥) → ((a : A) → P.whole used a → Among b t → ⊥)
-      → (repeated P).front (used ++ t ∷ []) → ⊥
+  in_item : (P : Grammar A) (laws' : Lawful A P b c false) (used : List Lexeme) (t : Lexeme) → P.beginning used → (P.beginning (used ++ t ∷ []) → ⊥) → ((a : A) → P.whole used a → Among b t → ⊥)
+      → (repeated P).beginning (used ++ t ∷ []) → ⊥
   in_item P laws' used t fits unfit no_whole f = cut f.0 f.1
     where
-      cut : (n : ℕ) → (times n P).front (used ++ t ∷ []) → ⊥
+      cut : (n : ℕ) → (times n P).beginning (used ++ t ∷ []) → ⊥
       cut zero f = cc (nothing_right used (t ∷ []) f)
       cut (suc n) (inl f) = cc (nothing_right used (t ∷ []) f)
       cut (suc n) (inr f) =
-          no_front_first A (List A) P (times n P) b c b (c ++ b) false true laws' (Lawful-times A P b c laws' apart n) apart used t fits unfit
+          no_beginning_first A (List A) P (times n P) b c b (c ++ b) false true laws' (Lawful-times A P b c laws' apart n) apart used t fits unfit
           (λ a w s. no_whole a w ((Lawful-times A P b c laws' apart n).first t s)) f
 
   one_more : (ts middle rest : List Lexeme) (a : A) (trees : List A) → Got A R U ts a middle → Got (List A) (repeated R) (repeated U) middle trees rest → Got (List A) (repeated R) (repeated U) ts (a ∷ trees) rest
@@ -107,7 +107,7 @@ module _ (A : Type 0) (R U : Rule A) (b c : List ℕ) (laws : Lawful A R b c fal
       let taken = sym (ap read (sym all) ∙ reads.complete used rest a w free) ∙ e in
       cc (taken)
 
-  item_stopped : (ts rest : List Lexeme) (stop : Stop) → read ts ≡ Err (stop, rest) → StopsAt R.front U.front ts stop rest → StopsAt (repeated R).front (repeated U).front ts stop rest
+  item_stopped : (ts rest : List Lexeme) (stop : Stop) → read ts ≡ Err (stop, rest) → StopsAt R.beginning U.beginning ts stop rest → StopsAt (repeated R).beginning (repeated U).beginning ts stop rest
   item_stopped ts rest stop e u = record {
     used = u.used;
     token = u.token;
@@ -116,12 +116,12 @@ module _ (A : Type 0) (R U : Rule A) (b c : List ℕ) (laws : Lawful A R b c fal
     all = u.all;
     fits = (suc zero, inr (inl u.fits));
     unfit = in_item R laws u.used u.token u.fits u.unfit (λ a w s. no_whole ts rest u.used u.more stop u.token a e u.all u.at w s);
-    verdict = verdict_by stop (U.front (u.used ++ u.token ∷ [])) ((repeated U).front (u.used ++ u.token ∷ [])) (λ f. (suc zero, inr (inl f)))
-        (λ refuted. in_item U unlimited u.used u.token (under.front u.used u.fits) refuted
+    verdict = verdict_by stop (U.beginning (u.used ++ u.token ∷ [])) ((repeated U).beginning (u.used ++ u.token ∷ [])) (λ f. (suc zero, inr (inl f)))
+        (λ refuted. in_item U unlimited u.used u.token (under.beginning u.used u.fits) refuted
         (λ a w s. no_whole ts rest u.used u.more stop u.token a e u.all u.at (under.solid u.used a w u.fits) s)) u.verdict;
   }
 
-  later_stopped : (ts middle rest : List Lexeme) (a : A) (stop : Stop) → Got A R U ts a middle → StopsAt (repeated R).front (repeated U).front middle stop rest → StopsAt (repeated R).front (repeated U).front ts stop rest
+  later_stopped : (ts middle rest : List Lexeme) (a : A) (stop : Stop) → Got A R U ts a middle → StopsAt (repeated R).beginning (repeated U).beginning middle stop rest → StopsAt (repeated R).beginning (repeated U).beginning ts stop rest
   later_stopped ts middle rest a stop one u = record {
     used = one.used ++ u.used;
     token = u.token;
@@ -129,13 +129,13 @@ module _ (A : Type 0) (R U : Rule A) (b c : List ℕ) (laws : Lawful A R b c fal
     at = u.at;
     all = append_assoc one.used u.used rest ∙ ap (λ (xs : List Lexeme). one.used ++ xs) u.all ∙ one.all;
     fits = (suc u.fits.0, inr (inr (one.used, u.used, a, refl, one.whole, u.fits.1)));
-    unfit = behind_item R laws one.used u.used a u.token one.whole (λ z zs cut f. over z zs cut (under.front (one.used ++ z ∷ []) f)) u.unfit;
-    verdict = verdict_by stop ((repeated U).front (u.used ++ u.token ∷ [])) ((repeated U).front ((one.used ++ u.used) ++ u.token ∷ []))
+    unfit = behind_item R laws one.used u.used a u.token one.whole (λ z zs cut f. over z zs cut (under.beginning (one.used ++ z ∷ []) f)) u.unfit;
+    verdict = verdict_by stop ((repeated U).beginning (u.used ++ u.token ∷ [])) ((repeated U).beginning ((one.used ++ u.used) ++ u.token ∷ []))
         (λ f. (suc f.0, inr (inr (one.used, u.used ++ u.token ∷ [], a, sym (append_assoc one.used u.used (u.token ∷ [])), under.whole one.used a one.whole, f.1))))
         (behind_item U unlimited one.used u.used a u.token (under.whole one.used a one.whole) over) u.verdict;
   }
     where
-      over : (z : Lexeme) (zs : List Lexeme) → u.used ++ u.token ∷ [] ≡ z ∷ zs → U.front (one.used ++ z ∷ []) → ⊥
+      over : (z : Lexeme) (zs : List Lexeme) → u.used ++ u.token ∷ [] ≡ z ∷ zs → U.beginning (one.used ++ z ∷ []) → ⊥
       over z zs cut =
           let w = first_same u.used u.more u.token z zs cut in
           one.over z w.0 (sym u.all ∙ ap (λ (xs : List Lexeme). u.used ++ xs) u.at ∙ w.1)
@@ -164,21 +164,21 @@ module _ (A : Type 0) (R U : Rule A) (b c : List ℕ) (laws : Lawful A R b c fal
       by_cases (inr h) again = stop_got ts rest trees h (sym (ends A b read n ts h) ∙ e)
 
   module _ (keeps : Keeps A read) where
-    times_stopped : (n : ℕ) (ts rest : List Lexeme) (stop : Stop) → length ts ≤ n → Ended ts → read_times n b read ts ≡ Err (stop, rest) → StopsAt (repeated R).front (repeated U).front ts stop rest
+    times_stopped : (n : ℕ) (ts rest : List Lexeme) (stop : Stop) → length ts ≤ n → Ended ts → read_times n b read ts ≡ Err (stop, rest) → StopsAt (repeated R).beginning (repeated U).beginning ts stop rest
     times_stopped zero ts rest stop l ended e = cc
     times_stopped (suc n) ts rest stop l ended e = by_cases (either (begins_with b ts)) (λ middle short end r. times_stopped n middle rest stop short end r)
       where
-        second : (length ts ≤ suc n) → ((middle : List Lexeme) → length middle ≤ n → Ended middle → read_times n b read middle ≡ Err (stop, rest) → StopsAt (repeated R).front (repeated U).front middle stop rest)
+        second : (length ts ≤ suc n) → ((middle : List Lexeme) → length middle ≤ n → Ended middle → read_times n b read middle ≡ Err (stop, rest) → StopsAt (repeated R).beginning (repeated U).beginning middle stop rest)
             → (read ts ≡ Err (stop, rest)) ⊎ ((a : A) × (middle : List Lexeme) × (read ts ≡ Ok (a, middle)) × (read_times n b read middle ≡ Err (stop, rest)))
-            → StopsAt (repeated R).front (repeated U).front ts stop rest
+            → StopsAt (repeated R).beginning (repeated U).beginning ts stop rest
         second short again (inl f) = item_stopped ts rest stop f (reads.stopped ts rest stop ended f)
         second short again (inr s) =
             let less = shorter ts s.1 s.0 s.2 in
             later_stopped ts s.1 rest s.0 stop (reads.got ts s.1 s.0 s.2) (again s.1 (omega arith) (keeps.ended ts s.1 s.0 ended s.2) s.3)
 
         by_cases : ((begins_with b ts ≡ true) ⊎ (begins_with b ts ≡ false))
-            → ((middle : List Lexeme) → length middle ≤ n → Ended middle → read_times n b read middle ≡ Err (stop, rest) → StopsAt (repeated R).front (repeated U).front middle stop rest)
-            → StopsAt (repeated R).front (repeated U).front ts stop rest
+            → ((middle : List Lexeme) → length middle ≤ n → Ended middle → read_times n b read middle ≡ Err (stop, rest) → StopsAt (repeated R).beginning (repeated U).beginning middle stop rest)
+            → StopsAt (repeated R).beginning (repeated U).beginning ts stop rest
         by_cases (inl h) again =
             second l again (both_err A (List A) (read_times n b read) (read ts) (stop, rest)
             (mapped_err (A × List A) (List A) cons_of (then_read (read ts) (read_times n b read)) (stop, rest) (sym (goes_on A b read n ts h) ∙ e)))

@@ -3,7 +3,7 @@ use Rattle.std.proofs.Common.{◌≡◌, ℕ, List, [], ◌∷◌, Bool, true, f
 use Rattle.std.proofs.lemmas.Bool.Decides.{nat_tests}
 use Rattle.std.specs.Prelude.{◌==◌, ◌||◌, ◌&&◌}
 use Rattle.grammar_rules.specs.Lexemes.{among, subset}
-use Rattle.grammar_rules.specs.Rules.{Rule}
+use Rattle.grammar_rules.specs.Rules.{Grammar}
 use Rattle.grammar_rules.specs.Readers.{Reader}
 use Rattle.grammar_rules.specs.Laws.{Fits}
 use Rattle.grammar_rules.proofs.RuleLaws.{Lawful-wider}
@@ -21,8 +21,8 @@ in_subset (x ∷ xs) ys n s h = by_cases (x == n) (among ys x) refl refl s h (λ
     by_cases false true e f s h later = later s h
     by_cases b false e f s h later = cc
 
--- what begins and continues a rule is within wider sets
-pub fits_sets : {A P : Type 0} {R U : Rule A} {b c : List ℕ} {n : Bool} {read : Reader A} (wider_begins wider_continues : List ℕ) → subset b wider_begins ≡ true → subset c wider_continues ≡ true
+-- what begins and continues a grammar is within wider sets
+pub fits_sets : {A P : Type 0} {R U : Grammar A} {b c : List ℕ} {n : Bool} {read : Reader A} (wider_begins wider_continues : List ℕ) → subset b wider_begins ≡ true → subset c wider_continues ≡ true
     → Fits A P R U b c n read → Fits A P R U wider_begins wider_continues n read
 fits_sets {A} {P} {R} {U} {b} {c} {n} {read} b' c' in_begins in_continues one = record {
   laws = Lawful-wider A R b c b' c' n n one.laws (λ t h. in_subset b b' t.symbol in_begins h) (λ t h. in_subset c c' t.symbol in_continues h) (λ e. e);

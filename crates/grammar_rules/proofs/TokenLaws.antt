@@ -4,7 +4,7 @@ use Rattle.std.specs.Prelude.{if◌then◌else◌, Ok, Err}
 use Rattle.grammar_rules.specs.declared.stop.Stop.{Stop}
 use Rattle.grammar_rules.specs.declared.stop.Stop.TheVariants.{Expected, Deep}
 use Rattle.grammar_rules.specs.Lexemes.{Lexeme, among, begins_with, first_of, Ended, no_symbol, end_symbol}
-use Rattle.grammar_rules.specs.Rules.{Rule, token, nothing, both, opened}
+use Rattle.grammar_rules.specs.Rules.{Grammar, token, nothing, both, opened}
 use Rattle.grammar_rules.specs.Readers.{Reading, Reader, read_token, read_nothing, then_read, read_opened}
 use Rattle.grammar_rules.specs.Laws.{Among, Free, Under, Got, IsVerdict, StopsAt, Reads, Keeps}
 use Rattle.grammar_rules.proofs.Cuts.{either, if_true, if_false}
@@ -29,11 +29,11 @@ module _ (set : List ℕ) where
       let same : given ≡ (a, rest) = cc (taken_is) in
       (sym (ap (λ (p : Lexeme × List Lexeme). p.0) same), ap (λ (p : Lexeme × List Lexeme). p.1) same)
 
-  no_second : (t u : Lexeme) → (token set).front (t ∷ u ∷ []) → ⊥
+  no_second : (t u : Lexeme) → (token set).beginning (t ∷ u ∷ []) → ⊥
   no_second t u (inl e) = cc
   no_second t u (inr s) = cc (s.1)
 
-  not_one : (t : Lexeme) → (Among set t → ⊥) → (token set).front (t ∷ []) → ⊥
+  not_one : (t : Lexeme) → (Among set t → ⊥) → (token set).beginning (t ∷ []) → ⊥
   not_one t h (inl e) = cc
   not_one t h (inr s) = let same : t ≡ s.0 = cc (s.1) in h (subst (λ (u : Lexeme). Among set u) (sym same) s.2)
 
@@ -56,18 +56,18 @@ module _ (set : List ℕ) where
             }
         by_cases ts (inr h) e = let stopped = sym (reads_no ts h) ∙ e in cc (stopped)
 
-    token_stopped : (ts rest : List Lexeme) (stop : Stop) → Ended ts → read_token set ts ≡ Err (stop, rest) → StopsAt (token set).front (token set).front ts stop rest
+    token_stopped : (ts rest : List Lexeme) (stop : Stop) → Ended ts → read_token set ts ≡ Err (stop, rest) → StopsAt (token set).beginning (token set).beginning ts stop rest
     token_stopped ts rest stop ended e = by_cases ts ended (either (begins_with set ts)) e
       where
         by_cases : (ts : List Lexeme) → Ended ts → (begins_with set ts ≡ true) ⊎ (begins_with set ts ≡ false) → read_token set ts ≡ Err (stop, rest)
-            → StopsAt (token set).front (token set).front ts stop rest
+            → StopsAt (token set).beginning (token set).beginning ts stop rest
         by_cases [] ended h e = absurd ended
         by_cases (t ∷ ts) ended (inl h) e = let took = sym (reads_yes (t ∷ ts) h) ∙ e in cc (took)
         by_cases (t ∷ ts) ended (inr h) e =
             let given : Stop × List Lexeme = (Expected, t ∷ ts) in
             let stopped = sym (reads_no (t ∷ ts) h) ∙ e in
             let same : given ≡ (stop, rest) = cc (stopped) in
-            let unfit : (token set).front (t ∷ []) → ⊥ = not_one t (no_true (among set t.symbol) h) in
+            let unfit : (token set).beginning (t ∷ []) → ⊥ = not_one t (no_true (among set t.symbol) h) in
             record {
               used = [];
               token = t;
@@ -76,7 +76,7 @@ module _ (set : List ℕ) where
               all = sym (ap (λ (p : Stop × List Lexeme). p.1) same);
               fits = inl refl;
               unfit = unfit;
-              verdict = subst (λ (s : Stop). IsVerdict s ((token set).front (t ∷ []))) (ap (λ (p : Stop × List Lexeme). p.0) same) unfit;
+              verdict = subst (λ (s : Stop). IsVerdict s ((token set).beginning (t ∷ []))) (ap (λ (p : Stop × List Lexeme). p.0) same) unfit;
             }
 
     token_complete : (used rest : List Lexeme) (a : Lexeme) → (token set).whole used a → Free [] rest → read_token set (used ++ rest) ≡ Ok (a, rest)
@@ -152,14 +152,14 @@ module _ (A : Type 0) (set : List ℕ) (inner : Reader A) where
   pub Keeps-deep : Keeps (Lexeme × A) (read_opened zero set inner)
   Keeps-deep = record { ended = λ ts rest a ended e. absurd (no_ok (begins_with set ts) ts rest a (sym (deep_is ts) ∙ e)) }
 
-module _ (A : Type 0) (set : List ℕ) (inner : Reader A) (U : Rule A) (empty : U.front []) where
-  abbrev open_front : List Lexeme → Type 0
-  open_front = (both (token set) U).front
+module _ (A : Type 0) (set : List ℕ) (inner : Reader A) (U : Grammar A) (empty : U.beginning []) where
+  abbrev open_beginning : List Lexeme → Type 0
+  open_beginning = (both (token set) U).beginning
 
-  opens : (t : Lexeme) → Among set t → open_front (t ∷ [])
+  opens : (t : Lexeme) → Among set t → open_beginning (t ∷ [])
   opens t h = inr (t ∷ [], [], t, refl, (refl, h), empty)
 
-  among_of : (t : Lexeme) → open_front (t ∷ []) → Among set t
+  among_of : (t : Lexeme) → open_beginning (t ∷ []) → Among set t
   among_of t (inl (inl e)) = cc
   among_of t (inl (inr s)) = let same : t ≡ s.0 = cc (s.1) in subst (λ (u : Lexeme). Among set u) (sym same) s.2
   among_of t (inr s) = first_is s.0 s.1 s.2 s.3 s.4
@@ -170,10 +170,10 @@ module _ (A : Type 0) (set : List ℕ) (inner : Reader A) (U : Rule A) (empty : 
           let same : a ≡ t = cc (all) in
           subst (λ (u : Lexeme). Among set u) same w.1
 
-  deep_stopped : (ts rest : List Lexeme) (stop : Stop) → Ended ts → read_opened zero set inner ts ≡ Err (stop, rest) → StopsAt (opened zero set U).front open_front ts stop rest
+  deep_stopped : (ts rest : List Lexeme) (stop : Stop) → Ended ts → read_opened zero set inner ts ≡ Err (stop, rest) → StopsAt (opened zero set U).beginning open_beginning ts stop rest
   deep_stopped ts rest stop ended e = by_cases ts ended (either (begins_with set ts)) e
     where
-      at_token : (t : Lexeme) (more : List Lexeme) → (verdict : Stop) → IsVerdict verdict (open_front (t ∷ [])) → (let given : Stop × List Lexeme = (verdict, t ∷ more) in given ≡ (stop, rest)) → StopsAt (opened zero set U).front open_front (t ∷ more) stop rest
+      at_token : (t : Lexeme) (more : List Lexeme) → (verdict : Stop) → IsVerdict verdict (open_beginning (t ∷ [])) → (let given : Stop × List Lexeme = (verdict, t ∷ more) in given ≡ (stop, rest)) → StopsAt (opened zero set U).beginning open_beginning (t ∷ more) stop rest
       at_token t more verdict v same = record {
         used = [];
         token = t;
@@ -182,14 +182,14 @@ module _ (A : Type 0) (set : List ℕ) (inner : Reader A) (U : Rule A) (empty : 
         all = sym (ap (λ (p : Stop × List Lexeme). p.1) same);
         fits = refl;
         unfit = λ f. cc (f);
-        verdict = subst (λ (s : Stop). IsVerdict s (open_front (t ∷ []))) (ap (λ (p : Stop × List Lexeme). p.0) same) v;
+        verdict = subst (λ (s : Stop). IsVerdict s (open_beginning (t ∷ []))) (ap (λ (p : Stop × List Lexeme). p.0) same) v;
       }
 
       no_true : (b : Bool) → b ≡ false → b ≡ true → ⊥
       no_true b e f = cc
 
       by_cases : (ts : List Lexeme) → Ended ts → (begins_with set ts ≡ true) ⊎ (begins_with set ts ≡ false) → read_opened zero set inner ts ≡ Err (stop, rest)
-          → StopsAt (opened zero set U).front open_front ts stop rest
+          → StopsAt (opened zero set U).beginning open_beginning ts stop rest
       by_cases [] ended h e = absurd ended
       by_cases (t ∷ more) ended (inl h) e =
           let given : Stop × List Lexeme = (Deep, t ∷ more) in
@@ -209,8 +209,8 @@ module _ (A : Type 0) (set : List ℕ) (inner : Reader A) (U : Rule A) (empty : 
     complete = λ used rest a w f. absurd w;
   }
 
-  never_front : (ts : List Lexeme) → ts ≡ [] → open_front ts
-  never_front ts e = inl (inl e)
+  never_beginning : (ts : List Lexeme) → ts ≡ [] → open_beginning ts
+  never_beginning ts e = inl (inl e)
 
   never_solid : (ts : List Lexeme) (a : Lexeme × A) → (both (token set) U).whole ts a → ts ≡ [] → ⊥
   never_solid ts a w e =
@@ -218,4 +218,4 @@ module _ (A : Type 0) (set : List ℕ) (inner : Reader A) (U : Rule A) (empty : 
       cc (all)
 
   pub Under-deep : Under (Lexeme × A) (opened zero set U) (both (token set) U)
-  Under-deep = record { whole = λ ts a w. absurd w; front = never_front; solid = never_solid }
+  Under-deep = record { whole = λ ts a w. absurd w; beginning = never_beginning; solid = never_solid }

@@ -4,7 +4,7 @@ use Rattle.std.proofs.lemmas.List.{append-nil}
 use Rattle.std.specs.Prelude.{if◌then◌else◌, Ok, Err}
 use Rattle.grammar_rules.specs.declared.stop.Stop.{Stop}
 use Rattle.grammar_rules.specs.Lexemes.{Lexeme, among, begins_with, no_symbol}
-use Rattle.grammar_rules.specs.Rules.{Rule, cons_of}
+use Rattle.grammar_rules.specs.Rules.{Grammar, cons_of}
 use Rattle.grammar_rules.specs.Readers.{Reading, Reader, mapped, paired, then_read, read_times, read_repeated, IsStop}
 use Rattle.grammar_rules.specs.Laws.{Fits}
 use Rattle.grammar_rules.proofs.RepeatedReaders.{goes_on, ends}
@@ -13,7 +13,7 @@ use Rattle.grammar_rules.proofs.RepeatedReaders.{goes_on, ends}
 pub record Takes (A : Type 0) (read : Reader A) : Type 0 where
   pub shorter : (ts rest : List Lexeme) (a : A) → read ts ≡ Ok (a, rest) → length rest < length ts
 
-pub takes : {A P : Type 0} {R U : Rule A} {b c : List ℕ} {read : Reader A} → Fits A P R U b c false read → P → Takes A read
+pub takes : {A P : Type 0} {R U : Grammar A} {b c : List ℕ} {read : Reader A} → Fits A P R U b c false read → P → Takes A read
 takes {A} {P} {R} fits p = record { shorter = λ ts rest a e. let g = (fits.reads p).got ts rest a e in by_cases ts rest a g.used g.all g.whole }
   where
     by_cases : (ts rest : List Lexeme) (a : A) (used : List Lexeme) → used ++ rest ≡ ts → R.whole used a → length rest < length ts

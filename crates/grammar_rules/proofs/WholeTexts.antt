@@ -1,11 +1,11 @@
--- A rule and then the end of the text: what is read is all of the text, and each text is read or has a first token
+-- A grammar and then the end of the text: what is read is all of the text, and each text is read or has a first token
 -- that doesn't fit, and not both.
 use Rattle.std.proofs.Common.{◌≡◌, ◌⊎◌, inl, inr, ℕ, List, [], ◌∷◌, ◌++◌, length, length-append, Bool, true, false, refl, ap, sym, ◌∙◌, subst, append_assoc, arith}
 use Rattle.std.proofs.lemmas.List.{append-nil}
 use Rattle.std.specs.Prelude.{◌==◌, ◌||◌, ◌&&◌, if◌then◌else◌, Ok, Err}
 use Rattle.grammar_rules.specs.declared.stop.Stop.{Stop}
 use Rattle.grammar_rules.specs.Lexemes.{Lexeme, among, disjoint, end_symbol, Ended}
-use Rattle.grammar_rules.specs.Rules.{Rule, token, both, ended, first_part}
+use Rattle.grammar_rules.specs.Rules.{Grammar, token, both, ended, first_part}
 use Rattle.grammar_rules.specs.Readers.{Reader, read_token, read_both, read_ended}
 use Rattle.grammar_rules.specs.Laws.{Lawful, Under, StopsAt, Reads, Fits}
 use Rattle.grammar_rules.proofs.Cuts.{apart_by, Behind, Before, cuts}
@@ -43,7 +43,7 @@ same_front used used' rest e = by_cases (cuts used rest used' rest e)
     by_cases (inl b) = b.left_is ∙ ap (λ (xs : List Lexeme). used' ++ xs) (nothing b.more (ap length b.ys_is)) ∙ append-nil used'
     by_cases (inr b) = absurd (never b.next b.more (ap length b.right_is))
 
-module _ (A P : Type 0) (R U : Rule A) (b c : List ℕ) (n : Bool) (read : Reader A) (fits : Fits A P R U b c n read) (apart : disjoint c (end_symbol ∷ []) ≡ true) where
+module _ (A P : Type 0) (R U : Grammar A) (b c : List ℕ) (n : Bool) (read : Reader A) (fits : Fits A P R U b c n read) (apart : disjoint c (end_symbol ∷ []) ≡ true) where
   pub ended_laws : Lawful A (ended R) (b ++ (if n then (end_symbol ∷ []) else [])) [] (n && false)
   ended_laws =
       Lawful-tree (A × Lexeme) A first_part (both R (token (end_symbol ∷ []))) (b ++ (if n then (end_symbol ∷ []) else [])) [] (n && false)
@@ -77,32 +77,32 @@ module _ (A P : Type 0) (R U : Rule A) (b c : List ℕ) (n : Bool) (read : Reade
     pub complete : (ts : List Lexeme) (a : A) → (ended R).whole ts a → read_ended read ts ≡ Ok (a, [])
     complete ts a w = ap (read_ended read) (sym (append-nil ts)) ∙ ended_reads.complete ts [] a w (record { free = λ t more r h. cc })
 
-    pub stops : (ts rest : List Lexeme) (stop : Stop) → Ended ts → read_ended read ts ≡ Err (stop, rest) → StopsAt (ended R).front (ended U).front ts stop rest
+    pub stops : (ts rest : List Lexeme) (stop : Stop) → Ended ts → read_ended read ts ≡ Err (stop, rest) → StopsAt (ended R).beginning (ended U).beginning ts stop rest
     stops ts rest stop end e = ended_reads.stopped ts rest stop end e
 
   -- a list of tokens that is whole has no token that doesn't fit
-  pub none_unfit : (ts used more : List Lexeme) (t : Lexeme) (a : A) → (ended R).whole ts a → used ++ t ∷ more ≡ ts → ((ended R).front (used ++ t ∷ []) → ⊥) → ⊥
+  pub none_unfit : (ts used more : List Lexeme) (t : Lexeme) (a : A) → (ended R).whole ts a → used ++ t ∷ more ≡ ts → ((ended R).beginning (used ++ t ∷ []) → ⊥) → ⊥
   none_unfit ts used more t a w e unfit =
       unfit (closed_at A (ended R) (b ++ (if n then (end_symbol ∷ []) else [])) [] (n && false) ended_laws used t more
-      (subst (λ (xs : List Lexeme). (ended R).front xs) (sym e) (ended_laws.begun ts a w)))
+      (subst (λ (xs : List Lexeme). (ended R).beginning xs) (sym e) (ended_laws.begun ts a w)))
 
   -- the first token that doesn't fit is one
-  pub unfit_once : (ts used more used' more' : List Lexeme) (t t' : Lexeme) → used ++ t ∷ more ≡ ts → used' ++ t' ∷ more' ≡ ts → (ended R).front used → (ended R).front used'
-      → ((ended R).front (used ++ t ∷ []) → ⊥) → ((ended R).front (used' ++ t' ∷ []) → ⊥) → (used ≡ used') × (t ≡ t')
+  pub unfit_once : (ts used more used' more' : List Lexeme) (t t' : Lexeme) → used ++ t ∷ more ≡ ts → used' ++ t' ∷ more' ≡ ts → (ended R).beginning used → (ended R).beginning used'
+      → ((ended R).beginning (used ++ t ∷ []) → ⊥) → ((ended R).beginning (used' ++ t' ∷ []) → ⊥) → (used ≡ used') × (t ≡ t')
   unfit_once ts used more used' more' t t' e e' fits_used fits_used' unfit unfit' = by_cases (cuts used (t ∷ more) used' (t' ∷ more') (e ∙ sym e'))
     where
-      cut : (xs : List Lexeme) (u : Lexeme) (ys : List Lexeme) → (ended R).front (xs ++ u ∷ ys) → (ended R).front (xs ++ u ∷ [])
+      cut : (xs : List Lexeme) (u : Lexeme) (ys : List Lexeme) → (ended R).beginning (xs ++ u ∷ ys) → (ended R).beginning (xs ++ u ∷ [])
       cut xs u ys f = closed_at A (ended R) (b ++ (if n then (end_symbol ∷ []) else [])) [] (n && false) ended_laws xs u ys f
 
       behind : (others : List Lexeme) → used ≡ used' ++ others → t' ∷ more' ≡ others ++ t ∷ more → (used ≡ used') × (t ≡ t')
       behind [] l r = let same : t' ≡ t = cc in (l ∙ append-nil used', sym same)
       behind (m ∷ others) l r =
           let same : m ≡ t' = cc in
-          absurd (unfit' (subst (λ (u : Lexeme). (ended R).front (used' ++ u ∷ [])) same (cut used' m others (subst (λ (xs : List Lexeme). (ended R).front xs) l fits_used))))
+          absurd (unfit' (subst (λ (u : Lexeme). (ended R).beginning (used' ++ u ∷ [])) same (cut used' m others (subst (λ (xs : List Lexeme). (ended R).beginning xs) l fits_used))))
 
       by_cases : Behind used (t ∷ more) used' (t' ∷ more') ⊎ Before used (t ∷ more) used' (t' ∷ more') → (used ≡ used') × (t ≡ t')
       by_cases (inl c) = behind c.more c.left_is c.ys_is
       by_cases (inr c) =
           let right = c.right_is in
           let same : c.next ≡ t = cc (right) in
-          absurd (unfit (subst (λ (u : Lexeme). (ended R).front (used ++ u ∷ [])) same (cut used c.next c.more (subst (λ (xs : List Lexeme). (ended R).front xs) c.xs_is fits_used'))))
+          absurd (unfit (subst (λ (u : Lexeme). (ended R).beginning (used ++ u ∷ [])) same (cut used c.next c.more (subst (λ (xs : List Lexeme). (ended R).beginning xs) c.xs_is fits_used'))))

@@ -5,7 +5,7 @@ use Rattle.std.specs.Prelude.{nat_le, Result, Ok, Err}
 use Rattle.grammar_rules.specs.declared.stop.Stop.{Stop}
 use Rattle.grammar_rules.specs.declared.stop.Stop.TheVariants.{Deep}
 use Rattle.grammar_rules.specs.Lexemes.{Lexeme, Ended}
-use Rattle.grammar_rules.specs.Rules.{Rule, within}
+use Rattle.grammar_rules.specs.Rules.{Grammar, within}
 use Rattle.grammar_rules.specs.Readers.{Reading, Reader, within_by, read_within}
 use Rattle.grammar_rules.specs.Laws.{Free, Lawful, Under, Got, StopsAt, Reads, Keeps}
 use Rattle.grammar_rules.proofs.Cuts.{either, if_true, if_false}
@@ -42,14 +42,14 @@ drop-append zero xs ys l = refl
 drop-append (suc n) [] ys l = absurd (omega arith)
 drop-append (suc n) (x ∷ xs) ys l = drop-append n xs ys (omega arith)
 
-module _ (A : Type 0) (R U : Rule A) (b c : List ℕ) (n : Bool) (laws : Lawful A R b c n) (under : Under A R U) (most more : ℕ) (less : most < more) where
-  -- a front that is too long
-  too_long : (ts rest used : List Lexeme) → used ++ rest ≡ ts → R.front used → length rest + most < length ts → StopsAt (within most R).front (within more U).front ts Deep (drop most ts)
+module _ (A : Type 0) (R U : Grammar A) (b c : List ℕ) (n : Bool) (laws : Lawful A R b c n) (under : Under A R U) (most more : ℕ) (less : most < more) where
+  -- a beginning that is too long
+  too_long : (ts rest used : List Lexeme) → used ++ rest ≡ ts → R.beginning used → length rest + most < length ts → StopsAt (within most R).beginning (within more U).beginning ts Deep (drop most ts)
   too_long ts rest used all f l =
       let size : length ts ≡ length used + length rest = ap length (sym all) ∙ length-append used rest in
       let cut = cut_at most used (omega arith) in
       let short : length cut.front ≡ most = cut.size in
-      let begun : R.front (cut.front ++ cut.token ∷ []) = closed_at A R b c n laws cut.front cut.token cut.more (subst (λ (xs : List Lexeme). R.front xs) (sym cut.all) f) in
+      let begun : R.beginning (cut.front ++ cut.token ∷ []) = closed_at A R b c n laws cut.front cut.token cut.more (subst (λ (xs : List Lexeme). R.beginning xs) (sym cut.all) f) in
       record {
         used = cut.front;
         token = cut.token;
@@ -59,7 +59,7 @@ module _ (A : Type 0) (R U : Rule A) (b c : List ℕ) (n : Bool) (laws : Lawful 
             ∙ sym (append_assoc cut.front (cut.token ∷ cut.more) rest) ∙ ap (λ (xs : List Lexeme). xs ++ rest) cut.all ∙ all;
         fits = (omega arith, laws.closed cut.front (cut.token ∷ []) begun);
         unfit = λ g. let h = g.0 in absurd (omega (arith, length-append cut.front (cut.token ∷ [])));
-        verdict = (omega (arith, length-append cut.front (cut.token ∷ [])), under.front (cut.front ++ cut.token ∷ []) begun);
+        verdict = (omega (arith, length-append cut.front (cut.token ∷ [])), under.beginning (cut.front ++ cut.token ∷ []) begun);
       }
 
   module _ (read : Reader A) (reads : Reads A R U c read) where
@@ -93,15 +93,15 @@ module _ (A : Type 0) (R U : Rule A) (b c : List ℕ) (n : Bool) (laws : Lawful 
             let stopped = sym (if_false (nat_le (length ts) (length stop.1 + most)) (Err stop) deep h) ∙ w in cc (stopped)
 
     -- reading stops at the token behind the limit
-    at_limit : (ts rest rest' used : List Lexeme) (stop : Stop) → used ++ rest' ≡ ts → R.front used → nat_le (length ts) (length rest' + most) ≡ false
-        → (let given : Stop × List Lexeme = (Deep, drop most ts) in given ≡ (stop, rest)) → StopsAt (within most R).front (within more U).front ts stop rest
+    at_limit : (ts rest rest' used : List Lexeme) (stop : Stop) → used ++ rest' ≡ ts → R.beginning used → nat_le (length ts) (length rest' + most) ≡ false
+        → (let given : Stop × List Lexeme = (Deep, drop most ts) in given ≡ (stop, rest)) → StopsAt (within most R).beginning (within more U).beginning ts stop rest
     at_limit ts rest rest' used stop all f h same =
-        subst (λ (p : Stop × List Lexeme). StopsAt (within most R).front (within more U).front ts p.0 p.1) same (too_long ts rest' used all f (test_false _ _ h))
+        subst (λ (p : Stop × List Lexeme). StopsAt (within most R).beginning (within more U).beginning ts p.0 p.1) same (too_long ts rest' used all f (test_false _ _ h))
 
-    stopped_by : (ts rest : List Lexeme) (stop : Stop) (r : Reading A) → Ended ts → read ts ≡ r → within_by most ts r ≡ Err (stop, rest) → StopsAt (within most R).front (within more U).front ts stop rest
+    stopped_by : (ts rest : List Lexeme) (stop : Stop) (r : Reading A) → Ended ts → read ts ≡ r → within_by most ts r ≡ Err (stop, rest) → StopsAt (within most R).beginning (within more U).beginning ts stop rest
     stopped_by ts rest stop (Ok (a', rest')) ended e w = by_cases (either (nat_le (length ts) (length rest' + most)))
       where
-        by_cases : (nat_le (length ts) (length rest' + most) ≡ true) ⊎ (nat_le (length ts) (length rest' + most) ≡ false) → StopsAt (within most R).front (within more U).front ts stop rest
+        by_cases : (nat_le (length ts) (length rest' + most) ≡ true) ⊎ (nat_le (length ts) (length rest' + most) ≡ false) → StopsAt (within most R).beginning (within more U).beginning ts stop rest
         by_cases (inl h) =
             let given : Reading A = Ok (a', rest') in
             let deep : Reading A = Err (Deep, drop most ts) in
@@ -114,17 +114,17 @@ module _ (A : Type 0) (R U : Rule A) (b c : List ℕ) (n : Bool) (laws : Lawful 
             at_limit ts rest rest' g.used stop g.all (laws.begun g.used a' g.whole) h (cc (taken))
     stopped_by ts rest stop (Err (stop', rest')) ended e w = by_cases (either (nat_le (length ts) (length rest' + most)))
       where
-        by_cases : (nat_le (length ts) (length rest' + most) ≡ true) ⊎ (nat_le (length ts) (length rest' + most) ≡ false) → StopsAt (within most R).front (within more U).front ts stop rest
+        by_cases : (nat_le (length ts) (length rest' + most) ≡ true) ⊎ (nat_le (length ts) (length rest' + most) ≡ false) → StopsAt (within most R).beginning (within more U).beginning ts stop rest
         by_cases (inl h) =
             let given : Reading A = Err (stop', rest') in
             let deep : Reading A = Err (Deep, drop most ts) in
-            let u : StopsAt R.front U.front ts stop' rest' = reads.stopped ts rest' stop' ended e in
+            let u : StopsAt R.beginning U.beginning ts stop' rest' = reads.stopped ts rest' stop' ended e in
             let pair : Stop × List Lexeme = (stop', rest') in
             let taken = sym (if_true (nat_le (length ts) (length rest' + most)) given deep h) ∙ w in
             let same : pair ≡ (stop, rest) = cc (taken) in
             let size : length ts ≡ length u.used + length rest' = ap length (sym u.all) ∙ length-append u.used rest' in
             let l : length ts ≤ length rest' + most = test_true _ _ h in
-            let stands : StopsAt (within most R).front (within more U).front ts stop' rest' = record {
+            let stands : StopsAt (within most R).beginning (within more U).beginning ts stop' rest' = record {
               used = u.used;
               token = u.token;
               more = u.more;
@@ -132,14 +132,14 @@ module _ (A : Type 0) (R U : Rule A) (b c : List ℕ) (n : Bool) (laws : Lawful 
               all = u.all;
               fits = (omega arith, u.fits);
               unfit = λ f. u.unfit f.1;
-              verdict = verdict_by stop' (U.front (u.used ++ u.token ∷ [])) ((within more U).front (u.used ++ u.token ∷ []))
+              verdict = verdict_by stop' (U.beginning (u.used ++ u.token ∷ [])) ((within more U).beginning (u.used ++ u.token ∷ []))
                   (λ f. (omega (arith, length-append u.used (u.token ∷ [])), f)) (λ refuted f. refuted f.1) u.verdict;
             } in
-            subst (λ (p : Stop × List Lexeme). StopsAt (within most R).front (within more U).front ts p.0 p.1) same stands
+            subst (λ (p : Stop × List Lexeme). StopsAt (within most R).beginning (within more U).beginning ts p.0 p.1) same stands
         by_cases (inr h) =
             let given : Reading A = Err (stop', rest') in
             let deep : Reading A = Err (Deep, drop most ts) in
-            let u : StopsAt R.front U.front ts stop' rest' = reads.stopped ts rest' stop' ended e in
+            let u : StopsAt R.beginning U.beginning ts stop' rest' = reads.stopped ts rest' stop' ended e in
             let taken = sym (if_false (nat_le (length ts) (length rest' + most)) given deep h) ∙ w in
             at_limit ts rest rest' u.used stop u.all u.fits h (cc (taken))
 

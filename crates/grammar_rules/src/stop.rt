@@ -3,7 +3,7 @@
 use std::alloc::AllocError;
 
 /// Why reading stops at a token.
-#[derive(Clone, Copy, Debug, PartialEq, Eq)]
+#[derive(Clone, Copy, PartialEq, Eq)]
 pub enum Stop {
     /// The token can't follow those before it.
     Expected,

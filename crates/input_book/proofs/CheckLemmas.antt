@@ -17,9 +17,9 @@ use Rattle.input_book.specs.Limits.{max_streams, max_partitions, max_segments, m
 use Rattle.input_book.specs.Refusals.{entry_key, read_inside}
 use Rattle.input_book.specs.declared.input_err.InputErr.{InputErr}
 use Rattle.input_book.specs.declared.input_err.InputErr.TheVariants.{TooMany, Twice, ThroughOrder}
-use Rattle.input_book.specs.declared.inputs.Inputs.{Inputs}
-use Rattle.input_book.specs.declared.inputs.SegmentName.{SegmentName}
-use Rattle.input_book.specs.declared.inputs.Stream.{Stream}
+use Rattle.input_types.specs.declared.inputs.Inputs.{Inputs}
+use Rattle.input_types.specs.declared.inputs.SegmentName.{SegmentName}
+use Rattle.input_types.specs.declared.inputs.Stream.{Stream}
 use Rattle.input_book.proofs.ReadingLemmas.{bind-then, read_inside-ok, le-true}
 
 abbrev pub Passes : Check → Type 0

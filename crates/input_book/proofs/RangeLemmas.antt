@@ -12,19 +12,19 @@ use Rattle.tick_time.specs.Calendar.{date_number}
 use Rattle.tick_time.specs.Ticks.{day_ticks}
 use Rattle.event_value.specs.declared.kind.Column.{Column}
 use Rattle.event_value.specs.declared.kind.Format.{Format}
-use Rattle.event_value.specs.declared.kind.Format.TheVariants.{Json, Csv, Avro}
+use Rattle.event_value.specs.declared.kind.Format.TheVariants.{Json, Csv, Avro, JsonExact}
 use Rattle.event_value.specs.declared.policy.Policy.{Policy}
 use Rattle.input_book.specs.Laws.{IsCountTo, IsSecondsTo, IsFormat, IsColumn, IsSegment, IsSnapshot, IsPolicy}
 use Rattle.input_book.specs.Limits.{max_name, max_file, max_path, max_late, max_disorder, max_skew}
 use Rattle.input_book.specs.Ranges.{any, sized, some_items, items_to, item_count, seconds_to, action_of, kind_of, delimiters, is_delimiter, format_of, delimited}
 use Rattle.input_book.specs.Readers.{value_of, text_of, table_of, list_of, needed, optional, only}
 use Rattle.input_book.specs.Tables.{default_policy, seconds_at, policy_keys, policy_of, path_of, column_of, source_of, segment_of, partition_of, stream_keys, stream_of, snapshot_of, reference_keys, reference_of, root_of}
-use Rattle.input_book.specs.declared.inputs.Inputs.{Inputs}
-use Rattle.input_book.specs.declared.inputs.Partition.{Partition}
-use Rattle.input_book.specs.declared.inputs.Reference.{Reference}
-use Rattle.input_book.specs.declared.inputs.SegmentName.{SegmentName}
-use Rattle.input_book.specs.declared.inputs.SnapshotName.{SnapshotName}
-use Rattle.input_book.specs.declared.inputs.Stream.{Stream}
+use Rattle.input_types.specs.declared.inputs.Inputs.{Inputs}
+use Rattle.input_types.specs.declared.inputs.Partition.{Partition}
+use Rattle.input_types.specs.declared.inputs.Reference.{Reference}
+use Rattle.input_types.specs.declared.inputs.SegmentName.{SegmentName}
+use Rattle.input_types.specs.declared.inputs.SnapshotName.{SnapshotName}
+use Rattle.input_types.specs.declared.inputs.Stream.{Stream}
 use Rattle.input_book.specs.declared.source.Source.{Source}
 use Rattle.input_book.proofs.ReadingLemmas.{bind-then, if_some, lt-true, optional-ok, needed-ok, needed_value-ok, value_of-ok, list_of-ok, tables-ok, table_of-ok, parts-ok, sized-ok, items_to-ok, seconds_to-ok}
 
@@ -109,6 +109,7 @@ csv-with false byte f is h = absurd cc
 delimited-is : (plain : Format) (text : List ℕ) (f : Format) → delimited plain text ≡ Some f → IsFormat f
 delimited-is Json text f h = absurd cc
 delimited-is Avro text f h = absurd cc
+delimited-is JsonExact text f h = absurd cc
 delimited-is (Csv d) [] f h = absurd cc
 delimited-is (Csv d) (byte ∷ []) f h = csv-with (is_delimiter byte) byte f refl h
 delimited-is (Csv d) (a ∷ b ∷ cs) f h = absurd cc

@@ -9,10 +9,10 @@ use Rattle.input_book.specs.Checks.{Check, each, count_check, name_check, column
 use Rattle.input_book.specs.Checks.{reference_limits, reference_names, reference_order, references_limits, references_names, snapshot_count, snapshot_order}
 use Rattle.input_book.specs.Limits.{max_columns, max_references, max_snapshots}
 use Rattle.input_book.specs.declared.input_err.InputErr.TheVariants.{EffectiveOrder, Twice}
-use Rattle.input_book.specs.declared.inputs.Inputs.{Inputs}
-use Rattle.input_book.specs.declared.inputs.Reference.{Reference}
-use Rattle.input_book.specs.declared.inputs.SnapshotName.{SnapshotName}
-use Rattle.input_book.specs.declared.inputs.Stream.{Stream}
+use Rattle.input_types.specs.declared.inputs.Inputs.{Inputs}
+use Rattle.input_types.specs.declared.inputs.Reference.{Reference}
+use Rattle.input_types.specs.declared.inputs.SnapshotName.{SnapshotName}
+use Rattle.input_types.specs.declared.inputs.Stream.{Stream}
 use Rattle.input_book.proofs.CheckLemmas.{Passes, columns-named, count-ok, each-all, each-cons, if_passes, is_among-false, name-new, names-apart}
 use Rattle.input_book.proofs.ReadingLemmas.{bind-then, lt-true}
 

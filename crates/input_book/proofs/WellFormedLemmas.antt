@@ -8,9 +8,9 @@ use Rattle.input_book.specs.Limits.{max_document}
 use Rattle.input_book.specs.Refusals.{ok_or}
 use Rattle.input_book.specs.Tables.{root_of}
 use Rattle.input_book.specs.declared.input_err.InputErr.TheVariants.{Toml, TooLong}
-use Rattle.input_book.specs.declared.inputs.Inputs.{Inputs}
-use Rattle.input_book.specs.declared.inputs.Reference.{Reference}
-use Rattle.input_book.specs.declared.inputs.Stream.{Stream}
+use Rattle.input_types.specs.declared.inputs.Inputs.{Inputs}
+use Rattle.input_types.specs.declared.inputs.Reference.{Reference}
+use Rattle.input_types.specs.declared.inputs.Stream.{Stream}
 use Rattle.input_book.proofs.CheckLemmas.{Passes, KeepsLimits, KeepsNames, KeepsOrder, limits-keep, names-keep, order-keeps}
 use Rattle.input_book.proofs.RangeLemmas.{KeepsInputs, KeepsReference, KeepsStream, root-keeps}
 use Rattle.input_book.proofs.ReferenceLemmas.{AreApart, DoRise, effective-keeps, reference_limits-keep, reference_names-keep}

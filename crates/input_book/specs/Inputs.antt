@@ -7,7 +7,7 @@ use Rattle.input_book.specs.Refusals.{◌>>=◌, ok_or}
 use Rattle.input_book.specs.Tables.{root_of}
 use Rattle.input_book.specs.declared.input_err.InputErr.{InputErr}
 use Rattle.input_book.specs.declared.input_err.InputErr.TheVariants.{Toml, TooLong}
-use Rattle.input_book.specs.declared.inputs.Inputs.{Inputs}
+use Rattle.input_types.specs.declared.inputs.Inputs.{Inputs}
 
 -- a document that isn't too long: its text, its tables, and then limits, names and moments
 unfoldable pub inputs_of_short : List ℕ → Result Inputs InputErr

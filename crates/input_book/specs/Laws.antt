@@ -4,19 +4,19 @@ use Rattle.std.specs.List.Sorted.{IsNonDecreasingBy}
 use Rattle.tick_time.specs.Moment.{limit_ticks}
 use Rattle.event_value.specs.declared.kind.Column.{Column}
 use Rattle.event_value.specs.declared.kind.Format.{Format}
-use Rattle.event_value.specs.declared.kind.Format.TheVariants.{Json, Csv, Avro}
+use Rattle.event_value.specs.declared.kind.Format.TheVariants.{Json, Csv, Avro, JsonExact}
 use Rattle.event_value.specs.declared.policy.Policy.{Policy}
 use Rattle.input_book.specs.Checks.{partition_count, snapshot_count}
 use Rattle.input_book.specs.Limits.{max_streams, max_partitions, max_segments, max_columns}
 use Rattle.input_book.specs.Limits.{max_references, max_snapshots}
 use Rattle.input_book.specs.Limits.{max_name, max_file, max_path, max_late, max_disorder, max_skew}
 use Rattle.input_book.specs.Ranges.{is_delimiter, ticks_of}
-use Rattle.input_book.specs.declared.inputs.Inputs.{Inputs}
-use Rattle.input_book.specs.declared.inputs.Partition.{Partition}
-use Rattle.input_book.specs.declared.inputs.Reference.{Reference}
-use Rattle.input_book.specs.declared.inputs.SegmentName.{SegmentName}
-use Rattle.input_book.specs.declared.inputs.SnapshotName.{SnapshotName}
-use Rattle.input_book.specs.declared.inputs.Stream.{Stream}
+use Rattle.input_types.specs.declared.inputs.Inputs.{Inputs}
+use Rattle.input_types.specs.declared.inputs.Partition.{Partition}
+use Rattle.input_types.specs.declared.inputs.Reference.{Reference}
+use Rattle.input_types.specs.declared.inputs.SegmentName.{SegmentName}
+use Rattle.input_types.specs.declared.inputs.SnapshotName.{SnapshotName}
+use Rattle.input_types.specs.declared.inputs.Stream.{Stream}
 
 -- a number from 1 to so many
 abbrev pub IsCountTo : ℕ → ℕ → Type 0
@@ -31,6 +31,7 @@ abbrev pub IsFormat : Format → Type 0
 IsFormat Json = Unit {0}
 IsFormat (Csv delimiter) = is_delimiter delimiter ≡ true
 IsFormat Avro = ⊥
+IsFormat JsonExact = ⊥
 
 pub record IsColumn (column : Column) : Type 0 where
   pub name : IsCountTo max_name (length column.name)

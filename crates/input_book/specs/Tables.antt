@@ -11,12 +11,12 @@ use Rattle.input_book.specs.Ranges.{action_of, kind_of, format_of, delimited}
 use Rattle.input_book.specs.Readers.{Reader, value_of, text_of, table_of, list_of, needed, optional, only}
 use Rattle.input_book.specs.Refusals.{◌>>=◌}
 use Rattle.input_book.specs.declared.input_err.InputErr.{InputErr}
-use Rattle.input_book.specs.declared.inputs.Inputs.{Inputs}
-use Rattle.input_book.specs.declared.inputs.Partition.{Partition}
-use Rattle.input_book.specs.declared.inputs.Reference.{Reference}
-use Rattle.input_book.specs.declared.inputs.SegmentName.{SegmentName}
-use Rattle.input_book.specs.declared.inputs.SnapshotName.{SnapshotName}
-use Rattle.input_book.specs.declared.inputs.Stream.{Stream}
+use Rattle.input_types.specs.declared.inputs.Inputs.{Inputs}
+use Rattle.input_types.specs.declared.inputs.Partition.{Partition}
+use Rattle.input_types.specs.declared.inputs.Reference.{Reference}
+use Rattle.input_types.specs.declared.inputs.SegmentName.{SegmentName}
+use Rattle.input_types.specs.declared.inputs.SnapshotName.{SnapshotName}
+use Rattle.input_types.specs.declared.inputs.Stream.{Stream}
 use Rattle.input_book.specs.declared.source.Source.{Source}
 
 -- the policies where the document has no such table

@@ -4,9 +4,10 @@ ghost use Rattle.std.specs.Prelude.{◌≡◌, [], IfOk, IfErr, Ok, codes};
 ghost use Rattle.input_book.specs.Checks.{each, effective_check, effective_order, is_above, reference_order, snapshot_order};
 ghost use Rattle.input_book.specs.Refusals.{IsRefusal};
 
+use crate::InputErr;
 use crate::key::Key;
 use crate::refusals::{read_inside, refused};
-use crate::{InputErr, Inputs, SnapshotName};
+use input_types::{Inputs, SnapshotName};
 use std::alloc::Global;
 use tick_time::Moment;
 

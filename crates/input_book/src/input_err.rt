@@ -9,7 +9,7 @@ use std::alloc::{AllocError, AllocFailed};
 /// The first cause of a document's refusal: `TooLong`, `Toml`, then `Unknown`, `Missing`, `Shape` and
 /// `Range` where they stand in the tables, then `TooMany`, `Twice`, `ThroughOrder`, `EffectiveOrder`.
 /// A key is a path in the document, as `stream[0].partition[1].segments[2].through`.
-#[derive(Debug, Drop, PartialEq, Eq)]
+#[derive(Drop, PartialEq, Eq)]
 pub enum InputErr {
     /// The text is no TOML.
     Toml,

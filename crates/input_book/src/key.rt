@@ -3,8 +3,9 @@
 ghost use Rattle.std.specs.Prelude.{◌≡◌, IfOk};
 ghost use Rattle.input_book.specs.Key.{key_text};
 
-use event_value::{Memory, Text, push_number};
+use event_value::{Memory, Text};
 use std::alloc::Global;
+use value_text::push_number;
 
 // The key of what stands in a table.
 #[derive(Clone, Copy)]

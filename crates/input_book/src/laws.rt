@@ -2,7 +2,7 @@
 
 ghost use Rattle.input_book.specs.Inputs.{IsAccepted};
 ghost use Rattle.input_book.specs.Laws.{IsWellFormed};
-ghost use Rattle.input_book.specs.declared.inputs.Inputs.{Inputs};
+ghost use Rattle.input_types.specs.declared.inputs.Inputs.{Inputs};
 
 /// The inputs of an accepted document keep every limit and range; no two of its streams and no two
 /// columns of a stream have one name, and the segments of a partition never fall in time.

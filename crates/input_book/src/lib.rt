@@ -11,7 +11,6 @@ mod column;
 mod document;
 mod effective_check;
 mod input_err;
-mod inputs;
 mod key;
 mod laws;
 mod limit_check;
@@ -32,6 +31,6 @@ mod source;
 mod texts;
 
 pub use input_err::InputErr;
-pub use inputs::{Inputs, Partition, Reference, SegmentName, SnapshotName, Stream};
+pub use input_types::{Inputs, Partition, Reference, SegmentName, SnapshotName, Stream};
 pub use laws::accepted_inputs_are_well_formed;
 pub use reading::read_inputs;

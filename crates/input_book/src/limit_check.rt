@@ -6,12 +6,13 @@ ghost use Rattle.input_book.specs.Checks.{limits_check, reference_limits, refere
 ghost use Rattle.input_book.specs.Limits.{max_partitions, max_snapshots};
 ghost use Rattle.input_book.specs.Refusals.{IsRefusal};
 
+use crate::InputErr;
 use crate::key::Key;
 use crate::limits::{
     MAX_COLUMNS, MAX_PARTITIONS, MAX_REFERENCES, MAX_SEGMENTS, MAX_SNAPSHOTS, MAX_STREAMS,
 };
 use crate::refusals::{read_inside, refused};
-use crate::{InputErr, Inputs, Partition, Reference, Stream};
+use input_types::{Inputs, Partition, Reference, Stream};
 use std::alloc::Global;
 
 #[tactic(auto, unfolding(crate::specs::Checks::count_check))]

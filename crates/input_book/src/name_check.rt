@@ -5,10 +5,11 @@ ghost use Rattle.input_book.specs.Checks.{each, is_among, column_names, stream_n
 ghost use Rattle.input_book.specs.Checks.{names_check, reference_names, references_names};
 ghost use Rattle.input_book.specs.Refusals.{IsRefusal};
 
+use crate::InputErr;
 use crate::key::Key;
 use crate::refusals::read_inside;
-use crate::{InputErr, Inputs, Reference, Stream};
 use event_value::{Column, Copies};
+use input_types::{Inputs, Reference, Stream};
 use std::alloc::Global;
 
 #[tactic(auto, unfolding(crate::specs::Checks::is_among))]

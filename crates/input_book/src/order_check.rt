@@ -4,9 +4,10 @@ ghost use Rattle.std.specs.Prelude.{◌≡◌, [], IfOk, IfErr, Ok, codes};
 ghost use Rattle.input_book.specs.Checks.{each, through_check, segment_order, partition_order, stream_order, order_check};
 ghost use Rattle.input_book.specs.Refusals.{IsRefusal};
 
+use crate::InputErr;
 use crate::key::Key;
 use crate::refusals::{read_inside, refused};
-use crate::{InputErr, Inputs, Partition, SegmentName, Stream};
+use input_types::{Inputs, Partition, SegmentName, Stream};
 use std::alloc::Global;
 use tick_time::Moment;
 

@@ -9,6 +9,7 @@ ghost use Rattle.input_book.specs.Readers.{list_of, needed, optional, table_of, 
 ghost use Rattle.input_book.specs.Refusals.{IsRefusal};
 ghost use Rattle.input_book.specs.Tables.{partition_of, segment_of};
 
+use crate::InputErr;
 use crate::key::Key;
 use crate::limits::MAX_FILE;
 use crate::members::{member_of, only, present};
@@ -16,8 +17,8 @@ use crate::parts::{FromTable, parts_of};
 use crate::refusals::ranged;
 use crate::shapes::{bool_in, list_in, text_in};
 use crate::texts::sized_at;
-use crate::{InputErr, Partition, SegmentName};
 use event_value::Seq;
+use input_types::{Partition, SegmentName};
 use std::alloc::Global;
 use tick_time::{Moment, read_moment};
 use toml::Table;

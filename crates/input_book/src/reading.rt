@@ -4,6 +4,7 @@ ghost use Rattle.std.specs.Prelude.{◌≡◌, IfOk, IfErr, Ok};
 ghost use Rattle.input_book.specs.Inputs.{inputs_of, inputs_of_short};
 ghost use Rattle.input_book.specs.Refusals.{IsRefusal};
 
+use crate::InputErr;
 use crate::document::read_document;
 use crate::effective_check::check_effective;
 use crate::limit_check::check_limits;
@@ -11,7 +12,7 @@ use crate::limits::MAX_DOCUMENT;
 use crate::name_check::check_names;
 use crate::order_check::check_order;
 use crate::root::root_of;
-use crate::{InputErr, Inputs};
+use input_types::Inputs;
 use std::alloc::Global;
 
 #[tactic(auto, unfolding(crate::specs::Inputs::inputs_of_short))]

@@ -7,6 +7,7 @@ ghost use Rattle.input_book.specs.Readers.{list_of, needed, table_of};
 ghost use Rattle.input_book.specs.Refusals.{IsRefusal};
 ghost use Rattle.input_book.specs.Tables.{reference_of, snapshot_of};
 
+use crate::InputErr;
 use crate::key::Key;
 use crate::limits::MAX_FILE;
 use crate::members::{only, present};
@@ -15,8 +16,8 @@ use crate::parts::{FromTable, parts_of};
 use crate::shapes::list_in;
 use crate::source::{Source, source_of};
 use crate::texts::sized_at;
-use crate::{InputErr, Reference, SnapshotName};
 use event_value::Seq;
+use input_types::{Reference, SnapshotName};
 use std::alloc::Global;
 use toml::Table;
 

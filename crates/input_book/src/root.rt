@@ -7,14 +7,15 @@ ghost use Rattle.input_book.specs.Readers.{list_of, optional, table_of};
 ghost use Rattle.input_book.specs.Refusals.{IsRefusal};
 ghost use Rattle.input_book.specs.Tables.{reference_of, root_of, stream_of};
 
+use crate::InputErr;
 use crate::key::Key;
 use crate::members::{member_of, only};
 use crate::parts::{FromTable, parts_at, parts_of};
 use crate::policy::policy_at;
 use crate::shapes::list_in;
 use crate::source::{Source, source_of};
-use crate::{InputErr, Inputs, Reference, Stream};
 use event_value::Seq;
+use input_types::{Inputs, Reference, Stream};
 use std::alloc::Global;
 use toml::Table;
 

@@ -66,7 +66,7 @@ fn delimited(format: Format, text: &str) -> Option<Format>
 {
     match format {
         Format::Csv(_) => delimiter_of(text).map(Format::Csv),
-        Format::Json | Format::Avro => None,
+        Format::Json | Format::Avro | Format::JsonExact => None,
     }
 }
 

@@ -1,6 +1,6 @@
 -- The printed rows of outputs, one output after the other.
 use Rattle.std.proofs.Common.{◌≡◌, ◌≤◌, ℕ, zero, suc, ◌+◌, List, [], ◌∷◌, ◌++◌, take, drop, length, min, refl, ap, sym, ◌∙◌, append-nil, append_assoc, arith}
-use Rattle.event_value.specs.declared.plan.Output.{Output}
+use Rattle.query_plan.specs.declared.plan.Output.{Output}
 use Rattle.event_value.specs.declared.record.Stamped.{Stamped}
 use Rattle.job_core.specs.Batches.{printed_outputs, printed_rows}
 use Rattle.job_core.specs.Gathered.{first_list, joined}

@@ -2,7 +2,7 @@
 use Rattle.std.proofs.Common.{◌≡◌, ◌≤◌, ◌<◌, ℕ, zero, suc, Bool, false, cond, ◌&&◌, Option, Some, None, List, [], ◌∷◌, ◌++◌, map, length, refl, ap, sym, ◌∙◌, subst, append-nil, append_assoc, arith}
 use Rattle.std.specs.Prelude.{nat_lt, nat_le, slice_get}
 use Rattle.std.specs.List.{insert, remove}
-use Rattle.event_value.specs.declared.plan.StreamUse.{StreamUse}
+use Rattle.query_plan.specs.declared.plan.StreamUse.{StreamUse}
 use Rattle.event_value.specs.declared.policy.Policy.{Policy}
 use Rattle.event_value.specs.declared.record.Event.{Event}
 use Rattle.event_value.specs.declared.record.Stamped.{Stamped}

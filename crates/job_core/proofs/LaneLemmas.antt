@@ -4,7 +4,7 @@ use Rattle.std.specs.Prelude.{◌==◌}
 use Rattle.std.proofs.lemmas.Bool.{and_right, ne_eqb}
 use Rattle.std.proofs.lemmas.List.{drop-append-le, drop-map, length-append, length-drop, length-map, take-append-le, take-map, take_all}
 use Rattle.std.proofs.lemmas.List.Elements.{filter-append}
-use Rattle.event_value.specs.declared.plan.StreamUse.{StreamUse}
+use Rattle.query_plan.specs.declared.plan.StreamUse.{StreamUse}
 use Rattle.event_value.specs.declared.policy.Policy.{Policy}
 use Rattle.event_value.specs.declared.record.Dropped.{Dropped as DroppedRecord}
 use Rattle.event_value.specs.declared.record.Event.{Event}
@@ -22,7 +22,7 @@ use Rattle.time_policy.specs.declared.rules.Rules.{Rules}
 use Rattle.time_policy.specs.declared.verdict.Verdict.{Verdict}
 use Rattle.time_policy.specs.declared.verdict.Verdict.TheVariants.{Kept, Dropped}
 use Rattle.arrival_log.specs.Kept.{Judge, entry_drop, entry_event, kept_record, lane_events, lane_watermark, policy_entries, policy_entry, verdict_behind}
-use Rattle.arrival_log.specs.Lane.{IsBehindItem}
+use Rattle.job_core.specs.Lane.{IsBehindItem}
 use Rattle.arrival_log.specs.Log.{LaneEntry, Record, Broken, End, item_entry, origin, position, place_behind}
 use Rattle.arrival_log.proofs.EntryLemmas.{place_after-push, policy_entries-push, events_behind-push, drops_behind-push}
 use Rattle.query_meaning.specs.Streams.{judge_of, stamp_of, substream_of}

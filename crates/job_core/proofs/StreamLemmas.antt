@@ -2,7 +2,7 @@
 use Rattle.std.proofs.Common.{◌≡◌, ◌≤◌, ℕ, zero, suc, ◌+◌, Bool, List, [], ◌∷◌, ◌++◌, filter, map, take, drop, min, refl, ap, sym, ◌∙◌, append-nil, append_assoc, arith}
 use Rattle.std.proofs.lemmas.List.{drop-map, map-append, take-append-drop, take-map}
 use Rattle.std.proofs.lemmas.List.Elements.{filter-append}
-use Rattle.event_value.specs.declared.plan.StreamUse.{StreamUse}
+use Rattle.query_plan.specs.declared.plan.StreamUse.{StreamUse}
 use Rattle.event_value.specs.declared.policy.Policy.{Policy}
 use Rattle.event_value.specs.declared.record.Dropped.{Dropped}
 use Rattle.event_value.specs.declared.record.Event.{Event}

@@ -1,8 +1,8 @@
 -- What a cut gives: the rows of each output with their texts, and the dropped records since the last cut.
 use Rattle.std.specs.Prelude.{ℕ, ◌+◌, List, [], ◌∷◌, ◌++◌, take, drop, map}
-use Rattle.event_value.specs.Printed.{row_text}
-use Rattle.event_value.specs.declared.plan.Output.{Output}
-use Rattle.event_value.specs.declared.plan.StreamUse.{StreamUse}
+use Rattle.value_text.specs.Printed.{row_text}
+use Rattle.query_plan.specs.declared.plan.Output.{Output}
+use Rattle.query_plan.specs.declared.plan.StreamUse.{StreamUse}
 use Rattle.event_value.specs.declared.policy.Policy.{Policy}
 use Rattle.event_value.specs.declared.record.Dropped.{Dropped}
 use Rattle.event_value.specs.declared.record.Stamped.{Stamped}

@@ -1,11 +1,11 @@
 -- What a core that has heard nothing stands for, by its plan and its inputs.
 use Rattle.std.specs.Prelude.{ℕ, ◌+◌, List, [], ◌∷◌, ◌++◌, length, map, slice_get, Option, Some, None}
-use Rattle.event_value.specs.declared.plan.Plan.{Plan}
-use Rattle.event_value.specs.declared.plan.StreamUse.{StreamUse}
-use Rattle.input_book.specs.declared.inputs.Inputs.{Inputs}
-use Rattle.input_book.specs.declared.inputs.Partition.{Partition}
-use Rattle.input_book.specs.declared.inputs.SegmentName.{SegmentName}
-use Rattle.input_book.specs.declared.inputs.Stream.{Stream}
+use Rattle.query_plan.specs.declared.plan.Plan.{Plan}
+use Rattle.query_plan.specs.declared.plan.StreamUse.{StreamUse}
+use Rattle.input_types.specs.declared.inputs.Inputs.{Inputs}
+use Rattle.input_types.specs.declared.inputs.Partition.{Partition}
+use Rattle.input_types.specs.declared.inputs.SegmentName.{SegmentName}
+use Rattle.input_types.specs.declared.inputs.Stream.{Stream}
 use Rattle.job_core.specs.Heard.{LaneHeard, nothing_heard}
 use Rattle.job_core.specs.Lanes.{LaneKind}
 

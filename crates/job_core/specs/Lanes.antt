@@ -1,6 +1,6 @@
 -- The lanes of a core: which partitions of which streams they are, and what each stands for.
 use Rattle.std.specs.Prelude.{◌≡◌, ◌≤◌, ℕ, ◌+◌, Bool, List, [], ◌∷◌, take, drop, length, min, zero, suc, Some, slice_get}
-use Rattle.event_value.specs.declared.plan.StreamUse.{StreamUse}
+use Rattle.query_plan.specs.declared.plan.StreamUse.{StreamUse}
 use Rattle.event_value.specs.declared.policy.Policy.{Policy}
 use Rattle.event_value.specs.declared.record.Item.{Item}
 use Rattle.event_value.specs.declared.record.Stamped.{Stamped}

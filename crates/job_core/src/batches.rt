@@ -6,10 +6,12 @@ ghost use Rattle.job_core.specs.Gathered as gather;
 
 use crate::lists::push_all;
 use checkpoint_form::Row;
-use event_value::{Copies, Memory, Output, Seq, Stamped, Text, push_row};
+use event_value::{Copies, Memory, Seq, Stamped, Text};
+use query_plan::Output;
 use row_order::put_in_order;
 use std::alloc::Global;
 use tick_time::Moment;
+use value_text::push_row;
 
 /// The rows of each stream, in order of time, by those of its lanes; it has so many lanes.
 ///

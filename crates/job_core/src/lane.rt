@@ -2,15 +2,16 @@
 
 ghost use Rattle.std.specs.Prelude.{◌≡◌, ◌≤ℤ◌, pos, ◌+◌, ◌<◌, ◌^◌, ◌++◌, [], ◌∷◌, Some, IsTrue, ◌↔◌, IfOk, OnOk, length, map, get_or};
 ghost use Rattle.arrival_log.specs.Kept.{entry_drop, events_below, kept_record};
-ghost use Rattle.arrival_log.specs.Lane.{IsBehindItem};
 ghost use Rattle.arrival_log.specs.Log.{Broken, End, Record, item_entry};
 ghost use Rattle.job_core.specs.Heard.{events_from};
+ghost use Rattle.job_core.specs.Lane.{IsBehindItem};
 ghost use Rattle.query_meaning.specs.Streams.{row_of};
 
 use event_value::{
-    Copies, Dropped, Event, Item, Memory, Policy, Position, Rule, Seq, Stamped, StreamUse, Value,
+    Copies, Dropped, Event, Item, Memory, Policy, Position, Rule, Seq, Stamped, Value,
 };
 use query_meaning::{stamp_of, substream_of};
+use query_plan::StreamUse;
 use std::alloc::Global;
 use tick_time::{END, Moment};
 use time_policy::{PolicyState, Verdict};

@@ -11,8 +11,9 @@ ghost use Rattle.job_core.specs.declared.lane.Lane.{Lane as Held};
 
 use crate::Lane;
 use crate::lists::push_all;
-use event_value::{Copies, Dropped, Item, Memory, Policy, Position, Seq, Stamped, StreamUse};
-use input_book::{Inputs, Partition};
+use event_value::{Copies, Dropped, Item, Memory, Policy, Position, Seq, Stamped};
+use input_types::{Inputs, Partition};
+use query_plan::StreamUse;
 use std::alloc::Global;
 use tick_time::{END, Moment};
 

@@ -17,9 +17,8 @@ use std::{env, io};
 use system_files::SystemFiles;
 
 fn main(rt: HostRuntime) -> ExitCode {
-    let words = match words_of(&rt, rt.alloc()) {
-        Ok(words) => words,
-        Err(status) => return ExitCode::from(status.number()),
+    let Ok(words) = words_of(&rt, rt.alloc()) else {
+        return ExitCode::from(Status::Memory.number());
     };
     let mut files = SystemFiles::of(&rt);
     let mut out = Output::of(io::writer(&rt));
@@ -27,14 +26,12 @@ fn main(rt: HostRuntime) -> ExitCode {
     ExitCode::from(status.number())
 }
 
-/// The program's words, without its own name. Words that aren't text are a faulty command line.
-fn words_of(rt: &(impl Env + AllocGlobal), alloc: Global) -> Result<Seq<Text>, Status> {
-    let Ok(args) = env::args(rt) else {
-        return Err(Status::Usage);
-    };
-    match texts_of(alloc, args) {
-        Ok(words) => Ok(words),
-        Err(_) => Err(Status::Memory),
+/// The program's words, without its own name; none where one of them isn't text, which `top` refuses
+/// like every command line that it doesn't know.
+fn words_of(rt: &(impl Env + AllocGlobal), alloc: Global) -> Result<Seq<Text>, Memory> {
+    match env::args(rt) {
+        Ok(args) => texts_of(alloc, args),
+        Err(_) => Ok(Seq::empty(alloc)),
     }
 }
 

@@ -1,7 +1,7 @@
 -- Documents that are accepted have no refusal.
 use Rattle.std.proofs.Common.{◌≡◌, ℕ, List, Result, Ok, Err, sym, ◌∙◌}
 use Rattle.input_book.specs.declared.input_err.InputErr.{InputErr}
-use Rattle.input_book.specs.declared.inputs.Inputs.{Inputs}
+use Rattle.input_types.specs.declared.inputs.Inputs.{Inputs}
 use Rattle.outside.specs.declared.segment.Segment.{Segment}
 use Rattle.outside.specs.declared.segment.Segment.TheVariants.{Bytes, TooLong}
 use Rattle.query_grammar.proofs.QueryLaws.{due-once}

@@ -4,12 +4,12 @@ use Rattle.std.proofs.lemmas.List.{append-nil}
 use Rattle.std.specs.Option.{IfSome}
 use Rattle.checkpoint_form.specs.declared.batch.Batch.{Batch}
 use Rattle.checkpoint_form.specs.declared.batch.Row.{Row}
-use Rattle.event_value.specs.declared.plan.Output.{Output}
+use Rattle.query_plan.specs.declared.plan.Output.{Output}
 use Rattle.event_value.specs.declared.record.Dropped.{Dropped}
 use Rattle.input_book.proofs.WellFormedLemmas.{accepted-well_formed}
 use Rattle.input_book.specs.Laws.{IsWellFormed}
-use Rattle.input_book.specs.declared.inputs.Inputs.{Inputs}
-use Rattle.input_book.specs.declared.inputs.Stream.{Stream}
+use Rattle.input_types.specs.declared.inputs.Inputs.{Inputs}
+use Rattle.input_types.specs.declared.inputs.Stream.{Stream}
 use Rattle.job_core.specs.Batches.{printed_outputs}
 use Rattle.log_reading.proofs.AskingLemmas.{Asks-append, Asks-none, AsksOnErr-among, AsksPrefixOf-all}
 use Rattle.log_reading.proofs.KnownLemmas.{IfSome-before, both}

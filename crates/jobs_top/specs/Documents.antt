@@ -4,7 +4,7 @@ use Rattle.input_book.specs.Inputs.{inputs_of}
 use Rattle.input_book.specs.Limits.{max_document}
 use Rattle.input_book.specs.declared.input_err.InputErr.{InputErr}
 use Rattle.input_book.specs.declared.input_err.InputErr.TheVariants.{TooLong as document_too_long}
-use Rattle.input_book.specs.declared.inputs.Inputs.{Inputs}
+use Rattle.input_types.specs.declared.inputs.Inputs.{Inputs}
 use Rattle.outside.specs.KnownFiles.{KnownFiles, file_of}
 use Rattle.outside.specs.Segment.{segment_of}
 use Rattle.outside.specs.declared.segment.Segment.{Segment}

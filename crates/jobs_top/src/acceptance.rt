@@ -6,10 +6,12 @@ ghost use Rattle.jobs_top.specs.Documents.{IsAccepted, IsRefusalOf, IsScriptAnsw
 
 use crate::documents::Documents;
 use crate::failure::Failure;
-use event_value::{Memory, Plan};
-use input_book::{InputErr, Inputs, read_inputs};
+use event_value::Memory;
+use input_book::{InputErr, read_inputs};
+use input_types::Inputs;
 use outside::Segment;
 use query_parse::{ParseErr, parse};
+use query_plan::Plan;
 use query_tree::Script;
 use query_type::{TypeErr, plan};
 use sqlite_items::Boxed;

@@ -11,7 +11,7 @@ use query_parse::ParseErr;
 use query_type::TypeErr;
 
 /// Why a command has no text.
-#[derive(Debug, Drop)]
+#[derive(Drop)]
 pub enum Failure {
     /// The query has this refusal as a text.
     Query(ParseErr),

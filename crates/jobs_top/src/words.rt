@@ -7,7 +7,7 @@ ghost use Rattle.jobs_top.specs.WordsView.{command_in};
 use event_value::Text;
 
 /// What is done with the documents of a command.
-#[derive(Clone, Copy, Debug, PartialEq, Eq)]
+#[derive(Clone, Copy, PartialEq, Eq)]
 pub enum Action {
     /// The query's rows and the dropped records are printed.
     Preview,

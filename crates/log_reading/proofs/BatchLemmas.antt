@@ -13,17 +13,17 @@ use Rattle.std.proofs.lemmas.List.Sums.{sum_by-cons}
 use Rattle.arrival_log.specs.Kept.{HeardLane, Judge, lane_drops, least_watermark}
 use Rattle.arrival_log.specs.Log.{LaneSegment, lane_entries, position}
 use Rattle.checkpoint_form.specs.declared.batch.Batch.{Batch}
-use Rattle.event_value.specs.declared.plan.Plan.{Plan}
-use Rattle.event_value.specs.declared.plan.StreamUse.{StreamUse}
+use Rattle.query_plan.specs.declared.plan.Plan.{Plan}
+use Rattle.query_plan.specs.declared.plan.StreamUse.{StreamUse}
 use Rattle.event_value.specs.declared.policy.Policy.{Policy}
 use Rattle.event_value.specs.declared.record.Dropped.{Dropped}
 use Rattle.event_value.specs.declared.record.Position.{Position}
 use Rattle.event_value.specs.declared.record.Stamped.{Stamped}
 use Rattle.input_book.specs.Laws.{IsPartition, IsStream, IsWellFormed}
-use Rattle.input_book.specs.declared.inputs.Inputs.{Inputs}
-use Rattle.input_book.specs.declared.inputs.Partition.{Partition}
-use Rattle.input_book.specs.declared.inputs.Reference.{Reference}
-use Rattle.input_book.specs.declared.inputs.Stream.{Stream}
+use Rattle.input_types.specs.declared.inputs.Inputs.{Inputs}
+use Rattle.input_types.specs.declared.inputs.Partition.{Partition}
+use Rattle.input_types.specs.declared.inputs.Reference.{Reference}
+use Rattle.input_types.specs.declared.inputs.Stream.{Stream}
 use Rattle.job_core.specs.Batches.{drops_since, drops_since_of, printed_outputs}
 use Rattle.job_core.specs.Core.{CoreStands, IsBatch, IsCut, IsSameCore, core_rows, core_watermark}
 use Rattle.job_core.specs.Fresh.{lane_counts, partitions_in}

@@ -2,9 +2,9 @@
 use Rattle.std.proofs.Common.{◌≡◌, List, map, Option, Some, None, refl, ap, sym, subst, ◌∙◌}
 use Rattle.std.specs.List.{All, flat_map}
 use Rattle.std.specs.Option.{IfSome}
-use Rattle.event_value.specs.declared.plan.Plan.{Plan}
+use Rattle.query_plan.specs.declared.plan.Plan.{Plan}
 use Rattle.event_value.specs.declared.policy.Policy.{Policy}
-use Rattle.input_book.specs.declared.inputs.Inputs.{Inputs}
+use Rattle.input_types.specs.declared.inputs.Inputs.{Inputs}
 use Rattle.job_core.specs.Core.{CoreStands, with_lanes}
 use Rattle.job_core.specs.Fresh.{fresh_heard, fresh_heard_of, lane_kinds}
 use Rattle.job_core.specs.Heard.{LaneHeard}

@@ -7,10 +7,10 @@ use Rattle.event_value.specs.declared.policy.Policy.{Policy}
 use Rattle.event_value.specs.declared.record.Item.{Item}
 use Rattle.event_value.specs.declared.record.Item.TheVariants.{Good, Bad}
 use Rattle.event_value.specs.declared.record.Position.{Position}
-use Rattle.input_book.specs.declared.inputs.Inputs.{Inputs}
-use Rattle.input_book.specs.declared.inputs.Partition.{Partition}
-use Rattle.input_book.specs.declared.inputs.SegmentName.{SegmentName}
-use Rattle.input_book.specs.declared.inputs.Stream.{Stream}
+use Rattle.input_types.specs.declared.inputs.Inputs.{Inputs}
+use Rattle.input_types.specs.declared.inputs.Partition.{Partition}
+use Rattle.input_types.specs.declared.inputs.SegmentName.{SegmentName}
+use Rattle.input_types.specs.declared.inputs.Stream.{Stream}
 use Rattle.job_core.specs.Fresh.{fresh_lane, throughs_of}
 use Rattle.job_core.specs.Lane.{IsFed, IsSameLane, LaneStands, fed_entries, through_of}
 use Rattle.job_core.specs.declared.lane.Lane.{Lane}

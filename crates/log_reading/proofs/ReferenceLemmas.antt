@@ -7,9 +7,9 @@ use Rattle.std.specs.Option.{IfSome}
 use Rattle.std.specs.Prelude.{slice_get}
 use Rattle.event_value.specs.declared.record.Stamped.{Stamped}
 use Rattle.input_book.specs.Laws.{IsReference, IsWellFormed}
-use Rattle.input_book.specs.declared.inputs.Inputs.{Inputs}
-use Rattle.input_book.specs.declared.inputs.Reference.{Reference}
-use Rattle.input_book.specs.declared.inputs.SnapshotName.{SnapshotName}
+use Rattle.input_types.specs.declared.inputs.Inputs.{Inputs}
+use Rattle.input_types.specs.declared.inputs.Reference.{Reference}
+use Rattle.input_types.specs.declared.inputs.SnapshotName.{SnapshotName}
 use Rattle.outside.specs.KnownFiles.{KnownFiles, files_after_asking}
 use Rattle.row_order.specs.InOrder.{AllFrom}
 use Rattle.stream_joins.specs.Snapshots.{Ascend, Snapshots}

@@ -1,6 +1,6 @@
 -- A core that is fed the log of its streams, for private clauses.
 use Rattle.std.specs.Prelude.{◌≡◌, map, Option, IfSome}
-use Rattle.input_book.specs.declared.inputs.Inputs.{Inputs}
+use Rattle.input_types.specs.declared.inputs.Inputs.{Inputs}
 use Rattle.job_core.specs.Core.{CoreStands, IsSameCore}
 use Rattle.job_core.specs.Fresh.{fresh_heard_of, lane_kinds}
 use Rattle.job_core.specs.Lanes.{kind_of}

@@ -1,8 +1,8 @@
 -- Inputs whose partitions all count as ended, as a preview reads them (docs/INPUTS, "Verdicts").
 use Rattle.std.specs.Prelude.{true, map}
-use Rattle.input_book.specs.declared.inputs.Inputs.{Inputs}
-use Rattle.input_book.specs.declared.inputs.Partition.{Partition}
-use Rattle.input_book.specs.declared.inputs.Stream.{Stream}
+use Rattle.input_types.specs.declared.inputs.Inputs.{Inputs}
+use Rattle.input_types.specs.declared.inputs.Partition.{Partition}
+use Rattle.input_types.specs.declared.inputs.Stream.{Stream}
 
 abbrev pub ended_partition : Partition → Partition
 ended_partition partition = record { segments = partition.segments; ended = true }

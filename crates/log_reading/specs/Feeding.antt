@@ -3,9 +3,9 @@ use Rattle.std.specs.Prelude.{◌≡◌, ◌<◌, List, [], ◌∷◌, length, m
 use Rattle.arrival_log.specs.Log.{LaneSegment, lane_entries, segment_entries}
 use Rattle.event_value.specs.declared.record.Item.{Item}
 use Rattle.event_value.specs.declared.policy.Policy.{Policy}
-use Rattle.input_book.specs.declared.inputs.Inputs.{Inputs}
-use Rattle.input_book.specs.declared.inputs.SegmentName.{SegmentName}
-use Rattle.input_book.specs.declared.inputs.Stream.{Stream}
+use Rattle.input_types.specs.declared.inputs.Inputs.{Inputs}
+use Rattle.input_types.specs.declared.inputs.SegmentName.{SegmentName}
+use Rattle.input_types.specs.declared.inputs.Stream.{Stream}
 use Rattle.job_core.specs.Fresh.{throughs_of}
 use Rattle.job_core.specs.Lane.{IsFed, IsSameLane, LaneStands, through_of}
 use Rattle.job_core.specs.declared.lane.Lane.{Lane}

@@ -9,14 +9,14 @@ use Rattle.arrival_text.specs.JsonItems.{json_items_of}
 use Rattle.arrival_text.specs.Segments.{max_segment, too_long_items}
 use Rattle.event_value.specs.declared.kind.Column.{Column}
 use Rattle.event_value.specs.declared.kind.Format.{Format}
-use Rattle.event_value.specs.declared.kind.Format.TheVariants.{Json, Csv, Avro}
-use Rattle.event_value.specs.declared.plan.StreamUse.{StreamUse}
+use Rattle.event_value.specs.declared.kind.Format.TheVariants.{Json, Csv, Avro, JsonExact}
+use Rattle.query_plan.specs.declared.plan.StreamUse.{StreamUse}
 use Rattle.event_value.specs.declared.record.Item.{Item}
 use Rattle.event_value.specs.declared.record.Item.TheVariants.{Bad}
 use Rattle.event_value.specs.declared.record.Rule.TheVariants.{Damaged}
-use Rattle.input_book.specs.declared.inputs.Partition.{Partition}
-use Rattle.input_book.specs.declared.inputs.SegmentName.{SegmentName}
-use Rattle.input_book.specs.declared.inputs.Stream.{Stream}
+use Rattle.input_types.specs.declared.inputs.Partition.{Partition}
+use Rattle.input_types.specs.declared.inputs.SegmentName.{SegmentName}
+use Rattle.input_types.specs.declared.inputs.Stream.{Stream}
 use Rattle.outside.specs.KnownFiles.{KnownFiles, file_of}
 use Rattle.outside.specs.Segment.{segment_of}
 use Rattle.outside.specs.declared.segment.Segment.{Segment}
@@ -31,6 +31,7 @@ abbrev pub items_in : Format → List Column → Bool → List ℕ → List Item
 items_in Json columns stamped bytes = json_items_of columns stamped bytes
 items_in (Csv delimiter) columns stamped bytes = csv_items_of columns stamped delimiter bytes
 items_in Avro columns stamped bytes = unreadable_items
+items_in JsonExact columns stamped bytes = unreadable_items
 
 -- the items of a file up to the limit of a segment, or the one of a longer file
 abbrev pub items_of_segment : Format → List Column → Segment → List Item

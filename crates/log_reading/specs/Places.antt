@@ -3,10 +3,10 @@ use Rattle.std.specs.Prelude.{◌≡◌, ℕ, Bool, List, [], length, map, slice
 use Rattle.std.specs.List.{flat_map}
 use Rattle.std.specs.Option.{option_map}
 use Rattle.arrival_log.specs.Log.{LaneEntry, lane_entries, position}
-use Rattle.event_value.specs.declared.plan.StreamUse.{StreamUse}
-use Rattle.input_book.specs.declared.inputs.Inputs.{Inputs}
-use Rattle.input_book.specs.declared.inputs.Partition.{Partition}
-use Rattle.input_book.specs.declared.inputs.Stream.{Stream}
+use Rattle.query_plan.specs.declared.plan.StreamUse.{StreamUse}
+use Rattle.input_types.specs.declared.inputs.Inputs.{Inputs}
+use Rattle.input_types.specs.declared.inputs.Partition.{Partition}
+use Rattle.input_types.specs.declared.inputs.Stream.{Stream}
 use Rattle.job_core.specs.Fresh.{fresh_lane, throughs_of}
 use Rattle.job_core.specs.Heard.{LaneHeard, is_closed}
 use Rattle.job_core.specs.Lane.{LaneStands}

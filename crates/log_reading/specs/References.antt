@@ -8,8 +8,8 @@ use Rattle.event_value.specs.declared.kind.Format.{Format}
 use Rattle.event_value.specs.declared.record.Item.{Item}
 use Rattle.event_value.specs.declared.record.Item.TheVariants.{Good, Bad}
 use Rattle.event_value.specs.declared.record.Stamped.{Stamped}
-use Rattle.input_book.specs.declared.inputs.Reference.{Reference}
-use Rattle.input_book.specs.declared.inputs.SnapshotName.{SnapshotName}
+use Rattle.input_types.specs.declared.inputs.Reference.{Reference}
+use Rattle.input_types.specs.declared.inputs.SnapshotName.{SnapshotName}
 use Rattle.outside.specs.KnownFiles.{KnownFiles, file_of}
 use Rattle.outside.specs.Segment.{segment_of}
 use Rattle.outside.specs.declared.segment.Segment.{Segment}

@@ -4,7 +4,7 @@ ghost use Rattle.std.specs.Prelude.{◌≡◌, IfOk, map};
 ghost use Rattle.log_reading.specs.Ended as ended;
 
 use event_value::{Copies, Memory, Seq};
-use input_book::{Inputs, Partition, Stream};
+use input_types::{Inputs, Partition, Stream};
 use std::alloc::Global;
 
 /// The same inputs, each of whose partitions is ended.

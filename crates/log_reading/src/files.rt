@@ -10,7 +10,7 @@ use crate::items::items_of_segment;
 use crate::{NamedReadErr, read_named};
 use arrival_text::MAX_SEGMENT;
 use event_value::{Item, Seq};
-use input_book::{SegmentName, Stream};
+use input_types::{SegmentName, Stream};
 use job_core::Lane;
 use outside::Files;
 use std::alloc::Global;

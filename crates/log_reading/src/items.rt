@@ -42,7 +42,7 @@ pub fn items_in(
     match format {
         Format::Json => json_items(alloc, columns, stamped, bytes),
         Format::Csv(delimiter) => csv_items(alloc, columns, stamped, delimiter, bytes),
-        Format::Avro => unreadable_items(alloc),
+        Format::Avro | Format::JsonExact => unreadable_items(alloc),
     }
 }
 

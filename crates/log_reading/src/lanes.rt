@@ -10,7 +10,7 @@ ghost use Rattle.log_reading.specs.Places.{IsFresh, lane_files, place_at, place_
 use crate::NamedReadErr;
 use crate::files::feed_segments;
 use event_value::Seq;
-use input_book::{Inputs, Partition, Stream};
+use input_types::{Inputs, Partition, Stream};
 use job_core::Lane;
 use outside::Files;
 use std::alloc::Global;

@@ -6,7 +6,7 @@ ghost use Rattle.log_reading.specs.declared.named_read_err.NamedReadErr.TheVaria
 use event_value::Text;
 
 /// Why one of several files can't be read.
-#[derive(Debug, Drop)]
+#[derive(Drop)]
 pub enum NamedReadErr {
     /// The file of this name can't be read.
     Fault(Text),

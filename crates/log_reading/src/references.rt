@@ -11,7 +11,7 @@ use crate::reference_rows::rows_of_segment;
 use crate::{NamedReadErr, read_named};
 use arrival_text::MAX_SEGMENT;
 use event_value::{Memory, Seq, Stamped};
-use input_book::{Inputs, Reference, SnapshotName};
+use input_types::{Inputs, Reference, SnapshotName};
 use outside::Files;
 use std::alloc::Global;
 use stream_joins::Versions;

@@ -8,7 +8,7 @@ use event_value::Seq;
 use std::marker::Model;
 
 /// The numbers of the calls that fail, and counts of the calls and of the faults.
-#[derive(Debug, Drop)]
+#[derive(Drop)]
 pub struct Failures {
     numbers: Seq<u64>,
     calls: u64,

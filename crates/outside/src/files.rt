@@ -9,7 +9,7 @@ ghost use Rattle.outside.specs.KnownFiles.{GivesPrefix, MakesProgress};
 use event_value::Memory;
 
 /// Why files answer nothing.
-#[derive(Clone, Copy, Debug, PartialEq, Eq)]
+#[derive(Clone, Copy, PartialEq, Eq)]
 pub enum FileErr {
     /// The outside failed. The files' count of faults has risen.
     Fault,

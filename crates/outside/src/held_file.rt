@@ -3,7 +3,7 @@
 use event_value::Text;
 
 /// A file in memory: its name and its bytes.
-#[derive(Debug, Drop)]
+#[derive(Drop)]
 pub struct HeldFile {
     pub name: Text,
     pub bytes: Text,

@@ -16,7 +16,7 @@ use std::alloc::Global;
 use std::marker::Model;
 
 /// Files in memory. The first file of a name counts.
-#[derive(Debug, Drop)]
+#[derive(Drop)]
 pub struct MemFiles {
     held: Seq<HeldFile>,
     asked: Seq<Text>,

@@ -5,7 +5,7 @@ use event_value::{Copies, Memory, Seq};
 use std::alloc::AllocError;
 
 /// The bytes of a file, if it isn't longer than the limit.
-#[derive(Debug, Drop)]
+#[derive(Drop)]
 pub enum Segment {
     Bytes(Seq<u8>),
     TooLong,
@@ -21,7 +21,7 @@ impl Copies for Segment {
 }
 
 /// Why a file was not read.
-#[derive(Clone, Copy, Debug, PartialEq, Eq)]
+#[derive(Clone, Copy, PartialEq, Eq)]
 pub enum ReadErr {
     /// A call of the files failed.
     Fault = 1,

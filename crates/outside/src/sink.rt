@@ -6,7 +6,7 @@ ghost use Rattle.outside.specs.Faults.{HasRisen};
 ghost use Rattle.outside.specs.Written.{bytes_after_write};
 
 /// Why a sink takes nothing.
-#[derive(Clone, Copy, Debug, PartialEq, Eq)]
+#[derive(Clone, Copy, PartialEq, Eq)]
 pub enum SinkErr {
     /// The outside failed. The sink's count of faults has risen.
     Fault,

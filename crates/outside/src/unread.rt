@@ -6,7 +6,7 @@ use event_value::Text;
 use std::marker::Model;
 
 /// What is left to read of a text. Contracts see it as that list of bytes.
-#[derive(Debug, Drop)]
+#[derive(Drop)]
 pub struct Unread {
     text: Text,
     at: usize,

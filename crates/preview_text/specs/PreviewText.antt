@@ -2,10 +2,10 @@
 use Rattle.std.specs.Prelude.{ℕ, List, [], ◌++◌, codes, slice_get, Option, Some, None}
 use Rattle.std.specs.List.{flat_map, zip}
 use Rattle.checkpoint_form.specs.declared.batch.Row.{Row}
-use Rattle.event_value.specs.Printed.{dropped_text}
-use Rattle.event_value.specs.declared.plan.Output.{Output}
+use Rattle.value_text.specs.Printed.{dropped_text}
+use Rattle.query_plan.specs.declared.plan.Output.{Output}
 use Rattle.event_value.specs.declared.record.Dropped.{Dropped}
-use Rattle.input_book.specs.declared.inputs.Stream.{Stream}
+use Rattle.input_types.specs.declared.inputs.Stream.{Stream}
 
 -- a row, in its printed form, on a line
 abbrev pub row_line : Row → List ℕ

@@ -6,9 +6,11 @@ ghost use Rattle.preview_text.specs.PreviewText.{preview_text, outputs_text, out
 ghost use Rattle.preview_text.specs.PreviewText.{drops_text, dropped_line, stream_name};
 
 use checkpoint_form::Row;
-use event_value::{Dropped, Memory, Output, Seq, Text, push_dropped};
-use input_book::Stream;
+use event_value::{Dropped, Memory, Seq, Text};
+use input_types::Stream;
+use query_plan::Output;
 use std::alloc::Global;
+use value_text::push_dropped;
 
 /// The text of a preview: the outputs, each with its rows, and the dropped records of the streams.
 ///

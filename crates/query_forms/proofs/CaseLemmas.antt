@@ -1,7 +1,7 @@
 -- The parts of a CASE by twos.
 use Rattle.std.proofs.Common.{◌≡◌, ◌≤◌, Option, Some, List, [], ◌∷◌, ◌++◌, length, drop, get_or, sym, ap, ◌∙◌, arith}
 use Rattle.event_value.specs.declared.kind.Kind.{Kind}
-use Rattle.event_value.specs.declared.expr.Branch.{Branch}
+use Rattle.query_plan.specs.declared.expr.Branch.{Branch}
 use Rattle.query_forms.specs.declared.sense.Sense.{Sense}
 use Rattle.query_forms.specs.Kinds.{mix}
 use Rattle.query_forms.specs.Senses.{after, branch_of, choice_from, choice_kind, kind_of}

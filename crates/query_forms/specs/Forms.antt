@@ -1,7 +1,7 @@
 -- The forms of the signs that are written in an expression.
-use Rattle.event_value.specs.declared.expr.Rel.{Rel}
-use Rattle.event_value.specs.declared.expr.Rel.TheVariants as rel
-use Rattle.event_value.specs.declared.expr.Op.TheVariants as op
+use Rattle.query_plan.specs.declared.expr.Rel.{Rel}
+use Rattle.query_plan.specs.declared.expr.Rel.TheVariants as rel
+use Rattle.query_plan.specs.declared.expr.Op.TheVariants as op
 use Rattle.query_tree.specs.declared.expr.Rel as written
 use Rattle.query_tree.specs.declared.expr.Rel.TheVariants as sign
 use Rattle.query_tree.specs.declared.expr.SumSign.{SumSign}

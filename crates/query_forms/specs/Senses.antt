@@ -3,17 +3,17 @@ use Rattle.std.specs.Prelude.{ℕ, Bool, true, false, ◌&&◌, if◌then◌else
 use Rattle.event_value.specs.declared.kind.Kind.{Kind}
 use Rattle.event_value.specs.declared.kind.Kind.TheVariants as kind
 use Rattle.event_value.specs.declared.value.Value.TheVariants as literal
-use Rattle.event_value.specs.declared.expr.Rel.{Rel}
-use Rattle.event_value.specs.declared.expr.Rel.TheVariants as rel
-use Rattle.event_value.specs.declared.expr.Op.{Op}
-use Rattle.event_value.specs.declared.expr.Op.TheVariants as op
-use Rattle.event_value.specs.declared.expr.Expr.{Expr}
-use Rattle.event_value.specs.declared.expr.Expr.TheVariants as expr
-use Rattle.event_value.specs.declared.expr.Expr.{out-Expr}
-use Rattle.event_value.specs.declared.expr.Cond.TheOpen.{Expr-F}
-use Rattle.event_value.specs.declared.expr.Cond.{Cond}
-use Rattle.event_value.specs.declared.expr.Cond.TheVariants as cond
-use Rattle.event_value.specs.declared.expr.Branch.{Branch}
+use Rattle.query_plan.specs.declared.expr.Rel.{Rel}
+use Rattle.query_plan.specs.declared.expr.Rel.TheVariants as rel
+use Rattle.query_plan.specs.declared.expr.Op.{Op}
+use Rattle.query_plan.specs.declared.expr.Op.TheVariants as op
+use Rattle.query_plan.specs.declared.expr.Expr.{Expr}
+use Rattle.query_plan.specs.declared.expr.Expr.TheVariants as expr
+use Rattle.query_plan.specs.declared.expr.Expr.{out-Expr}
+use Rattle.query_plan.specs.declared.expr.Cond.TheOpen.{Expr-F}
+use Rattle.query_plan.specs.declared.expr.Cond.{Cond}
+use Rattle.query_plan.specs.declared.expr.Cond.TheVariants as cond
+use Rattle.query_plan.specs.declared.expr.Branch.{Branch}
 use Rattle.query_forms.specs.declared.fault.Rule.TheVariants as rule
 use Rattle.query_forms.specs.declared.form.Form.{Form}
 use Rattle.query_forms.specs.declared.form.Form.TheVariants as form

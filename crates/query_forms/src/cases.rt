@@ -8,7 +8,8 @@ use crate::conditions::compared;
 use crate::kinds::mix;
 use crate::operations::{expr_of, kind_of};
 use crate::sense::{Sense, Valued};
-use event_value::{Branch, Cond, Expr, Kind, Memory, Rel};
+use event_value::{Kind, Memory};
+use query_plan::{Branch, Cond, Expr, Rel};
 use sqlite_items::{Boxed, Items};
 use std::alloc::Global;
 

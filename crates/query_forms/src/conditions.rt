@@ -1,12 +1,13 @@
 //! Conditions made of their parts.
 
 ghost use Rattle.std.specs.Prelude.{◌≡◌, [], IfOk};
-ghost use Rattle.event_value.specs.declared.expr.Expr.{out-Expr};
+ghost use Rattle.query_plan.specs.declared.expr.Expr.{out-Expr};
 ghost use Rattle.query_forms.specs.Senses as spec;
 
 use crate::kinds::{is_comparable, is_of};
 use crate::sense::{Sense, Valued};
-use event_value::{Cond, Copies, Expr, Kind, Memory, Rel, Text, Value};
+use event_value::{Copies, Kind, Memory, Text, Value};
+use query_plan::{Cond, Expr, Rel};
 use sqlite_items::{Boxed, Items};
 use std::alloc::Global;
 

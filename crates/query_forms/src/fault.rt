@@ -7,7 +7,7 @@ use event_value::{Copies, Memory, Seq};
 use std::alloc::Global;
 
 /// A rule that a part of a query can break. Rules are numbered from 1, in this order.
-#[derive(Clone, Copy, Debug, PartialEq, Eq)]
+#[derive(Clone, Copy, PartialEq, Eq)]
 pub enum Rule {
     /// No source has this name.
     UnknownSource,
@@ -36,7 +36,7 @@ pub enum Rule {
 }
 
 /// A rule that is broken, and the place where.
-#[derive(Clone, Copy, Debug, PartialEq, Eq)]
+#[derive(Clone, Copy, PartialEq, Eq)]
 pub struct Fault {
     /// The first byte of the part that breaks it.
     pub place: u32,

@@ -3,7 +3,8 @@
 ghost use Rattle.std.specs.Prelude.{◌≡◌};
 ghost use Rattle.query_forms.specs.Forms as spec;
 
-use event_value::{Kind, Op, Rel};
+use event_value::Kind;
+use query_plan::{Op, Rel};
 use query_tree as tree;
 use query_tree::{ProdSign, SumSign};
 

@@ -5,7 +5,8 @@ ghost use Rattle.query_forms.specs.Senses as spec;
 
 use crate::kinds::{is_castable, is_number, is_of, mix};
 use crate::sense::{Sense, Valued};
-use event_value::{Expr, Kind, Memory, Op, Seq};
+use event_value::{Kind, Memory, Seq};
+use query_plan::{Expr, Op};
 use sqlite_items::{Boxed, Items};
 use std::alloc::Global;
 

@@ -2,7 +2,8 @@
 
 ghost use Rattle.std.specs.Prelude.{◌≡◌, IfOk};
 
-use event_value::{Cond, Expr, Kind, Memory};
+use event_value::{Kind, Memory};
+use query_plan::{Cond, Expr};
 use std::alloc::Global;
 
 /// A value with its kind; where it rests on NULL alone it has none.

@@ -3,7 +3,7 @@ use Rattle.std.proofs.Common.{◌≡◌, ◌<◌, ◌≤◌, ℕ, zero, suc, Lis
 use Rattle.std.proofs.lemmas.List.{append-nil}
 use Rattle.std.specs.Prelude.{if◌then◌else◌}
 use Rattle.grammar_rules.specs.Lexemes.{Lexeme, among, disjoint, no_symbol, end_symbol}
-use Rattle.grammar_rules.specs.Rules.{Rule, both, tree, first_part}
+use Rattle.grammar_rules.specs.Rules.{Grammar, both, tree, first_part}
 use Rattle.grammar_rules.specs.Readers.{Reader, read_opened}
 use Rattle.grammar_rules.specs.Laws.{Lawful, Keeps, Fits}
 use Rattle.grammar_rules.proofs.UnderLaws.{Under-same}
@@ -46,13 +46,13 @@ pub flagged_fits : {P : Type 0} (s : Symbol) → among (one s) end_symbol ≡ fa
 flagged_fits s no_end absent apart = fits_flag (one s) no_end absent apart
 
 -- a comma and a part
-pub next_fits : {A P : Type 0} {R U : Rule A} {b c : List ℕ} {read : Reader A} → Fits A P R U b c false read
+pub next_fits : {A P : Type 0} {R U : Grammar A} {b c : List ℕ} {read : Reader A} → Fits A P R U b c false read
     → Fits A P (tree second_of (both (fixed symbol.Comma) R)) (tree second_of (both (fixed symbol.Comma) U)) (one symbol.Comma) c false (read_next read)
 next_fits {A} {P} {R} {U} {b} {c} {read} part =
     subst (λ (cs : List ℕ). Fits A P (tree second_of (both (fixed symbol.Comma) R)) (tree second_of (both (fixed symbol.Comma) U)) (one symbol.Comma) cs false (read_next read)) (append-nil c)
     (fits_tree second_of (fits_both (fixed_fits symbol.Comma refl refl) part refl))
 
-pub listed_fits : {A P : Type 0} {R U : Rule A} {b c : List ℕ} {read : Reader A} → Fits A P R U b c false read → disjoint c (one symbol.Comma) ≡ true
+pub listed_fits : {A P : Type 0} {R U : Grammar A} {b c : List ℕ} {read : Reader A} → Fits A P R U b c false read → disjoint c (one symbol.Comma) ≡ true
     → Fits (A × List A) P (listed R) (listed U) (b ++ []) ((c ++ one symbol.Comma) ++ c) false (read_listed read)
 listed_fits part apart = fits_both part (fits_repeated (next_fits part) apart refl) apart
 
@@ -113,7 +113,7 @@ pub record InsideFits (P : Type 0) (l m : Inside) (r : InsideReaders) : Type 0 w
   pub wider : 0 < m.left → Given ⊥ m m (no_readers m.left)
 
 -- an opening with what stands inside it
-opens_fits : {A P : Type 0} {l m : Inside} {r : InsideReaders} (s : Symbol) (R : Inside → Rule A) (read : InsideReaders → Reader A) (b c : List ℕ) (n : Bool)
+opens_fits : {A P : Type 0} {l m : Inside} {r : InsideReaders} (s : Symbol) (R : Inside → Grammar A) (read : InsideReaders → Reader A) (b c : List ℕ) (n : Bool)
     → among (one s) end_symbol ≡ false → among (one s) no_symbol ≡ false
     → ((Q : Type 0) (l' m' : Inside) (r' : InsideReaders) → Given Q l' m' r' → Fits A Q (R l') (R m') b c n (read r'))
     → InsideFits P l m r → Fits (Lexeme × A) P (opens l s (R l)) (opens m s (R m)) (one s) (c ++ (if n then [] else [])) false (read_opens r s (read r))
@@ -329,8 +329,8 @@ disjunction_fits l m r g =
 nothing_keeps : {A : Type 0} → Keeps A nothing_inside
 nothing_keeps = record { ended = λ ts rest a ended e. cc (e) }
 
--- a rule by itself, which is read nowhere
-alone : {A : Type 0} {R : Rule A} {b c : List ℕ} {n : Bool} → Lawful A R b c n → Fits A ⊥ R R b c n nothing_inside
+-- a grammar by itself, which is read nowhere
+alone : {A : Type 0} {R : Grammar A} {b c : List ℕ} {n : Bool} → Lawful A R b c n → Fits A ⊥ R R b c n nothing_inside
 alone {A} {R} laws = record { laws = laws; wider_laws = laws; under = Under-same A R; reads = λ p. absurd p; keeps = nothing_keeps }
 
 abbrev below : (P : Type 0) (d e : ℕ) → Type 0

@@ -56,23 +56,23 @@ read_complete : (ts : List Lexeme) (found : Script) → (script query_limits).wh
 read_complete ts found w =
     complete Script (Unit {0}) (statements query_limits) (statements (wide query_limits)) begins script_goes_on false (read_statements query_limits) (query_fits query_limits) refl tt ts found w
 
-read_stops : (l : Limits) (ts rest : List Lexeme) (stop : Stop) → Ended ts → read_script query_limits ts ≡ Err (stop, rest) → StopsAt (script query_limits).front (script (wide l)).front ts stop rest
+read_stops : (l : Limits) (ts rest : List Lexeme) (stop : Stop) → Ended ts → read_script query_limits ts ≡ Err (stop, rest) → StopsAt (script query_limits).beginning (script (wide l)).beginning ts stop rest
 read_stops l ts rest stop end e =
     stops Script (Unit {0}) (statements query_limits) (statements (wide l)) begins script_goes_on false (read_statements query_limits) (query_fits l) refl tt ts rest stop end e
 
-whole_fits : (ts used more : List Lexeme) (t : Lexeme) (found : Script) → (script query_limits).whole ts found → used ++ t ∷ more ≡ ts → ((script query_limits).front (used ++ t ∷ []) → ⊥) → ⊥
+whole_fits : (ts used more : List Lexeme) (t : Lexeme) (found : Script) → (script query_limits).whole ts found → used ++ t ∷ more ≡ ts → ((script query_limits).beginning (used ++ t ∷ []) → ⊥) → ⊥
 whole_fits ts used more t found w e unfit =
     none_unfit Script (Unit {0}) (statements query_limits) (statements (wide query_limits)) begins script_goes_on false (read_statements query_limits) (query_fits query_limits) refl ts used more t found w e unfit
 
-first_once : (ts used more used' more' : List Lexeme) (t t' : Lexeme) → used ++ t ∷ more ≡ ts → used' ++ t' ∷ more' ≡ ts → (script query_limits).front used → (script query_limits).front used'
-    → ((script query_limits).front (used ++ t ∷ []) → ⊥) → ((script query_limits).front (used' ++ t' ∷ []) → ⊥) → (used ≡ used') × (t ≡ t')
+first_once : (ts used more used' more' : List Lexeme) (t t' : Lexeme) → used ++ t ∷ more ≡ ts → used' ++ t' ∷ more' ≡ ts → (script query_limits).beginning used → (script query_limits).beginning used'
+    → ((script query_limits).beginning (used ++ t ∷ []) → ⊥) → ((script query_limits).beginning (used' ++ t' ∷ []) → ⊥) → (used ≡ used') × (t ≡ t')
 first_once ts used more used' more' t t' e e' f f' unfit unfit' =
     unfit_once Script (Unit {0}) (statements query_limits) (statements (wide query_limits)) begins script_goes_on false (read_statements query_limits) (query_fits query_limits) refl ts used more used' more' t t' e e' f f' unfit unfit'
 
 -- what begins a query within some limits begins one within wider ones
-wide_front : (l : Limits) (ts : List Lexeme) → (script l).front ts → (script (wide l)).front ts
-wide_front l ts f =
-    (ended_under Script ⊥ (statements l) (statements (wide l)) begins script_goes_on false (read_statements l) (own_fits l) refl).front ts f
+wide_beginning : (l : Limits) (ts : List Lexeme) → (script l).beginning ts → (script (wide l)).beginning ts
+wide_beginning l ts f =
+    (ended_under Script ⊥ (statements l) (statements (wide l)) begins script_goes_on false (read_statements l) (own_fits l) refl).beginning ts f
 
 -- a token that isn't expected begins no query within any limits
 not_unlimited : (ts rest used more : List Lexeme) (t : Lexeme) → Ended ts → read_script query_limits ts ≡ Err (Expected, rest) → rest ≡ t ∷ more → used ++ rest ≡ ts → BeginsUnlimited (used ++ t ∷ []) → ⊥
@@ -81,15 +81,15 @@ not_unlimited ts rest used more t end e at all f =
     let u = read_stops l ts rest Expected end e in
     let used_is : u.used ≡ used = same_front u.used used rest (u.all ∙ sym all) in
     let token_is : u.token ≡ t = let same = sym u.at ∙ at in cc (same) in
-    let front : (script (wide l)).front (u.used ++ u.token ∷ []) =
-    subst (λ (x : Lexeme). (script (wide l)).front (u.used ++ x ∷ [])) (sym token_is)
-    (subst (λ (xs : List Lexeme). (script (wide l)).front (xs ++ t ∷ [])) (sym used_is) (wide_front l (used ++ t ∷ []) f.1)) in
-    u.verdict front
+    let beginning : (script (wide l)).beginning (u.used ++ u.token ∷ []) =
+    subst (λ (x : Lexeme). (script (wide l)).beginning (u.used ++ x ∷ [])) (sym token_is)
+    (subst (λ (xs : List Lexeme). (script (wide l)).beginning (xs ++ t ∷ [])) (sym used_is) (wide_beginning l (used ++ t ∷ []) f.1)) in
+    u.verdict beginning
 
 -- ---- the answer for a text is due
 
 first_unfit : (text : List ℕ) (tokens : List Token) (stop : Stop) (rest : List Lexeme) → tokens_of text ≡ Ok tokens
-    → (u : StopsAt (script query_limits).front (script (wide query_limits)).front (lexemes_of text tokens) stop rest) → IsFirstUnfit text u.used u.token
+    → (u : StopsAt (script query_limits).beginning (script (wide query_limits)).beginning (lexemes_of text tokens) stop rest) → IsFirstUnfit text u.used u.token
 first_unfit text tokens stop rest t u = record {
   tokens = tokens;
   text_tokens = t;
@@ -100,7 +100,7 @@ first_unfit text tokens stop rest t u = record {
 }
 
 refused_by : (text : List ℕ) (tokens : List Token) (stop : Stop) (rest : List Lexeme) → tokens_of text ≡ Ok tokens → read_script query_limits (lexemes_of text tokens) ≡ Err (stop, rest)
-    → StopsAt (script query_limits).front (script (wide query_limits)).front (lexemes_of text tokens) stop rest → IsRefusedBy text (error_at stop (first_place rest))
+    → StopsAt (script query_limits).beginning (script (wide query_limits)).beginning (lexemes_of text tokens) stop rest → IsRefusedBy text (error_at stop (first_place rest))
 refused_by text tokens Expected rest t e u = (
   u.used,
   u.token,
@@ -140,19 +140,19 @@ answer_of-due text = in_due text (tokens_of text) refl
 
 module _ (text : List ℕ) (tokens : List Token) (front more : List Lexeme) (token : Lexeme) (all : front ++ token ∷ more ≡ lexemes_of text tokens)
     (fits : BeginsQuery front) (unfit : BeginsQuery (front ++ token ∷ []) → ⊥) where
-  same_unfit : (stop : Stop) (rest : List Lexeme) (u : StopsAt (script query_limits).front (script (wide query_limits)).front (lexemes_of text tokens) stop rest) → (u.used ≡ front) × (u.token ≡ token)
+  same_unfit : (stop : Stop) (rest : List Lexeme) (u : StopsAt (script query_limits).beginning (script (wide query_limits)).beginning (lexemes_of text tokens) stop rest) → (u.used ≡ front) × (u.token ≡ token)
   same_unfit stop rest u =
       first_once (lexemes_of text tokens) u.used u.more front more u.token token (ap (λ (xs : List Lexeme). u.used ++ xs) (sym u.at) ∙ u.all) all u.fits fits u.unfit unfit
 
-  place_is : (stop : Stop) (rest : List Lexeme) (u : StopsAt (script query_limits).front (script (wide query_limits)).front (lexemes_of text tokens) stop rest) → first_place rest ≡ token.place
+  place_is : (stop : Stop) (rest : List Lexeme) (u : StopsAt (script query_limits).beginning (script (wide query_limits)).beginning (lexemes_of text tokens) stop rest) → first_place rest ≡ token.place
   place_is stop rest u = ap first_place u.at ∙ ap (λ (t : Lexeme). t.place) (same_unfit stop rest u).1
 
-  deep_begins : (rest : List Lexeme) (u : StopsAt (script query_limits).front (script (wide query_limits)).front (lexemes_of text tokens) Deep rest) → BeginsUnlimited (front ++ token ∷ [])
+  deep_begins : (rest : List Lexeme) (u : StopsAt (script query_limits).beginning (script (wide query_limits)).beginning (lexemes_of text tokens) Deep rest) → BeginsUnlimited (front ++ token ∷ [])
   deep_begins rest u =
       let same = same_unfit Deep rest u in (
         wide query_limits,
-        subst (λ (t : Lexeme). (script (wide query_limits)).front (front ++ t ∷ [])) same.1
-            (subst (λ (xs : List Lexeme). (script (wide query_limits)).front (xs ++ u.token ∷ [])) same.0 u.verdict),
+        subst (λ (t : Lexeme). (script (wide query_limits)).beginning (front ++ t ∷ [])) same.1
+            (subst (λ (xs : List Lexeme). (script (wide query_limits)).beginning (xs ++ u.token ∷ [])) same.0 u.verdict),
       )
 
   expected_by : (place : ℕ) (read : Reading Script) → read_script query_limits (lexemes_of text tokens) ≡ read → place ≡ token.place → (BeginsUnlimited (front ++ token ∷ []) → ⊥)

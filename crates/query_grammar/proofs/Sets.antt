@@ -1,4 +1,4 @@
--- Which symbols may go on with a whole of a rule, and which no token has.
+-- Which symbols may go on with a whole of a grammar, and which no token has.
 use Rattle.std.proofs.Common.{◌≡◌, ℕ, List, [], ◌∷◌, ◌++◌, Bool, false, refl, ap, ◌∙◌}
 use Rattle.std.specs.Prelude.{◌==◌, ◌||◌}
 use Rattle.grammar_rules.specs.Lexemes.{among, no_symbol}

@@ -1,9 +1,9 @@
--- The grammar of expressions. Each line is a rule over what stands inside an opening: a parenthesis, CASE, NOT or a
+-- The grammar of expressions. Each line is a `Grammar` over what stands inside an opening: a parenthesis, CASE, NOT or a
 -- unary minus, of which only so many may be open at once.
 use Rattle.std.proofs.Common.{inl, inr}
 use Rattle.std.specs.Prelude.{◌⊎◌, ◌==◌, ◌-◌, ℕ, zero, suc, List, [], ◌∷◌, Bool, if◌then◌else◌, Option, Some, None}
 use Rattle.grammar_rules.specs.Lexemes.{Lexeme}
-use Rattle.grammar_rules.specs.Rules.{Rule, token, never, both, tree, first_part, placed, choice, or_else, perhaps, repeated, opened}
+use Rattle.grammar_rules.specs.Rules.{Grammar, token, never, both, tree, first_part, placed, choice, or_else, perhaps, repeated, opened}
 use Rattle.query_tokens.specs.declared.symbol.Symbol.{Symbol}
 use Rattle.query_tokens.specs.declared.symbol.Symbol.TheVariants as symbol
 use Rattle.query_tokens.specs.Symbols.{symbol_number}
@@ -40,19 +40,19 @@ use Rattle.query_tree.specs.declared.expr.When.{When, roll-When}
 use Rattle.query_grammar.specs.Leaves.{number_of, text_content}
 use Rattle.query_grammar.specs.Lists.{set_of, one, fixed, flagged, listed, second_of, path, type_name}
 
--- how many openings are left, and the rules for what stands inside one
+-- how many openings are left, and the grammars for what stands inside one
 pub record Inside : Type 1 where
   pub left : ℕ
-  pub expr : Rule Expr
-  pub not : Rule Not
-  pub unary : Rule Unary
+  pub expr : Grammar Expr
+  pub not : Grammar Not
+  pub unary : Grammar Unary
 
 -- how many are left inside an opening
 abbrev pub lower : ℕ → ℕ
 lower left = left - 1
 
 -- a fixed word or sign that opens
-abbrev pub opens : {A : Type 0} → Inside → Symbol → Rule A → Rule (Lexeme × A)
+abbrev pub opens : {A : Type 0} → Inside → Symbol → Grammar A → Grammar (Lexeme × A)
 opens l word inner = opened l.left (one word) inner
 
 -- ---- numbers, texts, NULL
@@ -66,13 +66,13 @@ text_from t = primary.Text t.place (text_content t.bytes)
 abbrev pub null_from : Lexeme → Primary
 null_from t = primary.Null t.place
 
-unfoldable pub number : Rule Primary
+unfoldable pub number : Grammar Primary
 number = tree number_from (fixed symbol.Number)
 
-unfoldable pub text : Rule Primary
+unfoldable pub text : Grammar Primary
 text = tree text_from (fixed symbol.Text)
 
-unfoldable pub null : Rule Primary
+unfoldable pub null : Grammar Primary
 null = tree null_from (fixed symbol.Null)
 
 -- ---- columns and calls
@@ -85,14 +85,14 @@ args_from (place, inl star) = args.Star place
 args_from (place, inr parts) = args.Listed place parts.0 parts.1.0 parts.1.1
 
 -- "*" | [DISTINCT] expr {"," expr}
-unfoldable pub arguments : Inside → Rule Args
+unfoldable pub arguments : Inside → Grammar Args
 arguments l = tree args_from (placed (choice (fixed symbol.Star) (both (flagged symbol.Distinct) (listed l.expr))))
 
 abbrev pub call_args_from : Lexeme × (Option Args × Lexeme) → Option Args
 call_args_from parts = parts.1.0
 
 -- "(" [arguments] ")"
-unfoldable pub call_args : Inside → Rule (Option Args)
+unfoldable pub call_args : Inside → Grammar (Option Args)
 call_args l = tree call_args_from (opens l symbol.Open (both (perhaps (arguments l)) (fixed symbol.Close)))
 
 abbrev pub call_from : Path × Option (Option Args) → Primary
@@ -100,7 +100,7 @@ call_from (name, None) = primary.Column name
 call_from (name, Some parts) = primary.Call (call.Function name.place name parts)
 
 -- column | path "(" [arguments] ")"
-unfoldable pub column_or_call : Inside → Rule Primary
+unfoldable pub column_or_call : Inside → Grammar Primary
 column_or_call l = tree call_from (both path (perhaps (call_args l)))
 
 abbrev pub cast_symbols : List ℕ
@@ -113,7 +113,7 @@ abbrev pub cast_type_from : Lexeme × (TypeName × Lexeme) → TypeName
 cast_type_from parts = parts.1.0
 
 -- AS type ")", where so many openings are left
-unfoldable pub cast_type : ℕ → Rule TypeName
+unfoldable pub cast_type : ℕ → Grammar TypeName
 cast_type left = tree cast_type_from (both (fixed symbol.As) (both (type_name left) (fixed symbol.Close)))
 
 abbrev pub CastParts : Type 0
@@ -123,7 +123,7 @@ abbrev pub cast_from : CastParts → Primary
 cast_from parts = primary.Call (call.Cast parts.0.place (cast_word parts.0) parts.1.1.0 parts.1.1.1)
 
 -- (CAST | TRY_CAST) "(" expr AS type ")"
-unfoldable pub cast : Inside → Rule Primary
+unfoldable pub cast : Inside → Grammar Primary
 cast l = tree cast_from (both (token cast_symbols) (opens l symbol.Open (both l.expr (cast_type (lower l.left)))))
 
 -- ---- CASE
@@ -135,15 +135,15 @@ abbrev pub when_from : WhenParts → When
 when_from parts = roll-When (record { place = parts.0.place; when = parts.1.0; then = parts.1.1.1 })
 
 -- WHEN expr THEN expr
-unfoldable pub when : Inside → Rule When
+unfoldable pub when : Inside → Grammar When
 when l = tree when_from (both (fixed symbol.When) (both l.expr (both (fixed symbol.Then) l.expr)))
 
 -- ELSE expr
-unfoldable pub else_part : Inside → Rule Expr
+unfoldable pub else_part : Inside → Grammar Expr
 else_part l = tree second_of (both (fixed symbol.Else) l.expr)
 
 -- [ELSE expr] END
-unfoldable pub case_end : Inside → Rule (Option Expr)
+unfoldable pub case_end : Inside → Grammar (Option Expr)
 case_end l = tree first_part (both (perhaps (else_part l)) (fixed symbol.End))
 
 abbrev pub CaseParts : Type 0
@@ -159,7 +159,7 @@ case_from parts = primary.Case (roll-Case (record {
 }))
 
 -- CASE [expr] WHEN expr THEN expr {WHEN expr THEN expr} [ELSE expr] END
-unfoldable pub case : Inside → Rule Primary
+unfoldable pub case : Inside → Grammar Primary
 case l =
     tree case_from (opens l symbol.Case (both (perhaps l.expr) (both (when l) (both (repeated (when l)) (case_end l)))))
 
@@ -172,13 +172,13 @@ abbrev pub nested_from : NestedParts → Primary
 nested_from parts = primary.Nested parts.0.place parts.1.0
 
 -- "(" expr ")"
-unfoldable pub nested : Inside → Rule Primary
+unfoldable pub nested : Inside → Grammar Primary
 nested l = tree nested_from (opens l symbol.Open (both l.expr (fixed symbol.Close)))
 
 -- ---- primary, unary, products, sums
 
 -- number | text | NULL | column | call | case | "(" expr ")"
-unfoldable pub primary_rule : Inside → Rule Primary
+unfoldable pub primary_rule : Inside → Grammar Primary
 primary_rule l =
     or_else number (or_else text (or_else null (or_else (column_or_call l) (or_else (cast l) (or_else (case l) (nested l))))))
 
@@ -186,7 +186,7 @@ abbrev pub minus_from : Lexeme × Unary → Unary
 minus_from parts = unary.Minus parts.0.place parts.1
 
 -- "-" unary | primary
-unfoldable pub unary_rule : Inside → Rule Unary
+unfoldable pub unary_rule : Inside → Grammar Unary
 unary_rule l = or_else (tree minus_from (opens l symbol.Minus l.unary)) (tree unary.Primary (primary_rule l))
 
 abbrev pub prod_symbols : List ℕ
@@ -200,14 +200,14 @@ prod_sign t =
 abbrev pub prod_more_from : Lexeme × Unary → ProdMore
 prod_more_from parts = record { place = parts.0.place; sign = prod_sign parts.0; unary = parts.1 }
 
-unfoldable pub prod_more : Inside → Rule ProdMore
+unfoldable pub prod_more : Inside → Grammar ProdMore
 prod_more l = tree prod_more_from (both (token prod_symbols) (unary_rule l))
 
 abbrev pub prod_from : ℕ × (Unary × List ProdMore) → Prod
 prod_from parts = roll-Prod (record { place = parts.0; first = parts.1.0; more = parts.1.1 })
 
 -- unary {("*" | "/" | "%") unary}
-unfoldable pub prod : Inside → Rule Prod
+unfoldable pub prod : Inside → Grammar Prod
 prod l = tree prod_from (placed (both (unary_rule l) (repeated (prod_more l))))
 
 abbrev pub sum_symbols : List ℕ
@@ -219,14 +219,14 @@ sum_sign t = if t.symbol == symbol_number symbol.Plus then Plus else Minus
 abbrev pub sum_more_from : Lexeme × Prod → SumMore
 sum_more_from parts = roll-SumMore (record { place = parts.0.place; sign = sum_sign parts.0; prod = parts.1 })
 
-unfoldable pub sum_more : Inside → Rule SumMore
+unfoldable pub sum_more : Inside → Grammar SumMore
 sum_more l = tree sum_more_from (both (token sum_symbols) (prod l))
 
 abbrev pub sum_from : ℕ × (Prod × List SumMore) → Sum
 sum_from parts = roll-Sum (record { place = parts.0; first = parts.1.0; more = parts.1.1 })
 
 -- prod {("+" | "-") prod}
-unfoldable pub sum : Inside → Rule Sum
+unfoldable pub sum : Inside → Grammar Sum
 sum l = tree sum_from (placed (both (prod l) (repeated (sum_more l))))
 
 -- ---- conditions
@@ -247,7 +247,7 @@ abbrev pub compare_from : Lexeme × Sum → PredRest
 compare_from parts = rest.Compare parts.0.place (rel_of parts.0) parts.1
 
 -- rel sum
-unfoldable pub compare : Inside → Rule PredRest
+unfoldable pub compare : Inside → Grammar PredRest
 compare l = tree compare_from (both (token rel_symbols) (sum l))
 
 abbrev pub BetweenParts : Type 0
@@ -271,20 +271,20 @@ negatable_by place not (inr (inr parts)) = rest.Like place not parts.1
 abbrev pub negatable_from : ℕ × (Bool × NegatableParts) → PredRest
 negatable_from parts = negatable_by parts.0 parts.1.0 parts.1.1
 
-unfoldable pub between : Inside → Rule BetweenParts
+unfoldable pub between : Inside → Grammar BetweenParts
 between l = both (fixed symbol.Between) (both (sum l) (both (fixed symbol.And) (sum l)))
 
-unfoldable pub in_list : Inside → Rule InParts
+unfoldable pub in_list : Inside → Grammar InParts
 in_list l = both (fixed symbol.In) (opens l symbol.Open (both (listed l.expr) (fixed symbol.Close)))
 
-unfoldable pub like : Inside → Rule LikeParts
+unfoldable pub like : Inside → Grammar LikeParts
 like l = both (fixed symbol.Like) (sum l)
 
-unfoldable pub negatable_parts : Inside → Rule NegatableParts
+unfoldable pub negatable_parts : Inside → Grammar NegatableParts
 negatable_parts l = choice (between l) (choice (in_list l) (like l))
 
 -- [NOT] (BETWEEN sum AND sum | IN "(" expr {"," expr} ")" | LIKE sum)
-unfoldable pub negatable : Inside → Rule PredRest
+unfoldable pub negatable : Inside → Grammar PredRest
 negatable l = tree negatable_from (placed (both (flagged symbol.Not) (negatable_parts l)))
 
 abbrev pub IsNullParts : Type 0
@@ -294,44 +294,44 @@ abbrev pub is_null_from : IsNullParts → PredRest
 is_null_from parts = rest.IsNull parts.0.place parts.1.0
 
 -- IS [NOT] NULL
-unfoldable pub is_null : Rule PredRest
+unfoldable pub is_null : Grammar PredRest
 is_null = tree is_null_from (both (fixed symbol.Is) (both (flagged symbol.Not) (fixed symbol.Null)))
 
-unfoldable pub pred_rest : Inside → Rule PredRest
+unfoldable pub pred_rest : Inside → Grammar PredRest
 pred_rest l = or_else (compare l) (or_else (negatable l) is_null)
 
 abbrev pub pred_from : ℕ × (Sum × Option PredRest) → Pred
 pred_from parts = roll-Pred (record { place = parts.0; sum = parts.1.0; rest = parts.1.1 })
 
 -- sum [rest]
-unfoldable pub pred : Inside → Rule Pred
+unfoldable pub pred : Inside → Grammar Pred
 pred l = tree pred_from (placed (both (sum l) (perhaps (pred_rest l))))
 
 abbrev pub negation_from : Lexeme × Not → Not
 negation_from parts = nots.Negation parts.0.place parts.1
 
 -- NOT not | pred
-unfoldable pub not_rule : Inside → Rule Not
+unfoldable pub not_rule : Inside → Grammar Not
 not_rule l = or_else (tree negation_from (opens l symbol.Not l.not)) (tree nots.Pred (pred l))
 
 abbrev pub and_from : ℕ × (Not × List Not) → And
 and_from parts = record { place = parts.0; first = parts.1.0; more = parts.1.1 }
 
 -- not {AND not}
-unfoldable pub and_more : Inside → Rule Not
+unfoldable pub and_more : Inside → Grammar Not
 and_more l = tree second_of (both (fixed symbol.And) (not_rule l))
 
-unfoldable pub conjunction : Inside → Rule And
+unfoldable pub conjunction : Inside → Grammar And
 conjunction l = tree and_from (placed (both (not_rule l) (repeated (and_more l))))
 
 abbrev pub expr_from : ℕ × (And × List And) → Expr
 expr_from parts = roll-Expr (record { place = parts.0; first = parts.1.0; more = parts.1.1 })
 
 -- and {OR and}
-unfoldable pub or_more : Inside → Rule And
+unfoldable pub or_more : Inside → Grammar And
 or_more l = tree second_of (both (fixed symbol.Or) (conjunction l))
 
-unfoldable pub disjunction : Inside → Rule Expr
+unfoldable pub disjunction : Inside → Grammar Expr
 disjunction l = tree expr_from (placed (both (conjunction l) (repeated (or_more l))))
 
 -- ---- by how many openings are left
@@ -350,5 +350,5 @@ abbrev pub inside : ℕ → Inside
 inside left = with_left left (inner_rules left)
 
 -- an expression in which so many openings may be open at once
-abbrev pub expr : ℕ → Rule Expr
+abbrev pub expr : ℕ → Grammar Expr
 expr left = disjunction (inside left)

@@ -30,10 +30,10 @@ IsScript text found = (tokens : List Token) × (tokens_of text ≡ Ok tokens) ×
 
 -- the tokens begin a query within the limits, or within some limits
 abbrev pub BeginsQuery : List Lexeme → Type 0
-BeginsQuery ts = (script query_limits).front ts
+BeginsQuery ts = (script query_limits).beginning ts
 
 abbrev pub BeginsUnlimited : List Lexeme → Type 0
-BeginsUnlimited ts = (l : Limits) × (script l).front ts
+BeginsUnlimited ts = (l : Limits) × (script l).beginning ts
 
 -- the first token of the text with which the tokens so far no longer begin a query within the limits
 pub record IsFirstUnfit (text : List ℕ) (front : List Lexeme) (token : Lexeme) : Type 0 where

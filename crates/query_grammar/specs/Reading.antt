@@ -1,4 +1,4 @@
--- Reading the grammar off the front of the tokens: for each rule its reader.
+-- Reading the grammar off the front of the tokens: for each grammar its reader.
 use Rattle.std.specs.Prelude.{ℕ, zero, suc, List, [], ◌∷◌, ◌++◌, Bool, Option, Result, Ok, Err}
 use Rattle.grammar_rules.specs.declared.stop.Stop.{Stop}
 use Rattle.grammar_rules.specs.declared.stop.Stop.TheVariants.{Expected, Deep, Memory}

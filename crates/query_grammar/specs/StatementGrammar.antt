@@ -3,7 +3,7 @@
 use Rattle.std.proofs.Common.{inl, inr}
 use Rattle.std.specs.Prelude.{◌⊎◌, ℕ, List, [], ◌∷◌, Bool, is_some, Option, Some, None}
 use Rattle.grammar_rules.specs.Lexemes.{Lexeme}
-use Rattle.grammar_rules.specs.Rules.{Rule, both, tree, placed, choice, perhaps, repeated, opened, within, ended}
+use Rattle.grammar_rules.specs.Rules.{Grammar, both, tree, placed, choice, perhaps, repeated, opened, within, ended}
 use Rattle.query_tokens.specs.declared.symbol.Symbol.TheVariants as symbol
 use Rattle.query_tree.specs.declared.name.Name.{Name}
 use Rattle.query_tree.specs.declared.name.Path.{Path}
@@ -42,7 +42,7 @@ abbrev pub inside_opening : Limits → Limits
 inside_opening l = record { tokens = l.tokens; nesting = lower l.nesting }
 
 -- an expression that stands in no other
-unfoldable pub whole_expr : Limits → Rule Expr
+unfoldable pub whole_expr : Limits → Grammar Expr
 whole_expr l = within l.tokens (expr l.nesting)
 
 -- ---- sources
@@ -51,28 +51,28 @@ abbrev pub alias_from : ℕ × (Bool × Name) → Alias
 alias_from parts = record { place = parts.0; written = parts.1.0; name = parts.1.1 }
 
 -- [AS] name
-unfoldable pub alias : Rule Alias
+unfoldable pub alias : Grammar Alias
 alias = tree alias_from (placed (both (flagged symbol.As) name))
 
 abbrev pub over_from : Lexeme × (Path × List Path) → Over
 over_from parts = record { place = parts.0.place; first = parts.1.0; more = parts.1.1 }
 
 -- OVER column {"," column}
-unfoldable pub over : Rule Over
+unfoldable pub over : Grammar Over
 over = tree over_from (both (fixed symbol.Over) (listed path))
 
 abbrev pub stamp_from : Lexeme × (Lexeme × (Expr × Option Over)) → Stamp
 stamp_from parts = record { place = parts.0.place; expr = parts.1.1.0; over = parts.1.1.1 }
 
 -- TIMESTAMP BY expr [OVER column {"," column}]
-unfoldable pub stamp : Limits → Rule Stamp
+unfoldable pub stamp : Limits → Grammar Stamp
 stamp l = tree stamp_from (both (fixed symbol.Timestamp) (both (fixed symbol.By) (both (whole_expr l) (perhaps over))))
 
 abbrev pub source_from : Name × (Option Alias × Option Stamp) → Source
 source_from parts = record { place = parts.0.place; name = parts.0; alias = parts.1.0; stamp = parts.1.1 }
 
 -- name [[AS] name] [TIMESTAMP BY expr [OVER column {"," column}]]
-unfoldable pub source : Limits → Rule Source
+unfoldable pub source : Limits → Grammar Source
 source l = tree source_from (both name (both (perhaps alias) (perhaps (stamp l))))
 
 abbrev pub side_from : Lexeme ⊎ (Lexeme × Bool) → Side
@@ -80,11 +80,11 @@ side_from (inl word) = side.Inner word.place
 side_from (inr words) = side.Left words.0.place words.1
 
 -- INNER | LEFT [OUTER]
-unfoldable pub join_side : Rule Side
+unfoldable pub join_side : Grammar Side
 join_side = tree side_from (choice (fixed symbol.Inner) (both (fixed symbol.Left) (flagged symbol.Outer)))
 
 -- ON expr
-unfoldable pub on : Limits → Rule Expr
+unfoldable pub on : Limits → Grammar Expr
 on l = tree second_of (both (fixed symbol.On) (whole_expr l))
 
 abbrev pub join_from : ℕ × (Option Side × (Lexeme × (Source × Expr))) → Join
@@ -97,7 +97,7 @@ join_from parts = record {
 }
 
 -- [INNER | LEFT [OUTER]] JOIN source ON expr
-unfoldable pub join : Limits → Rule Join
+unfoldable pub join : Limits → Grammar Join
 join l =
     tree join_from (placed (both (perhaps join_side) (both (fixed symbol.Join) (both (source l) (on l)))))
 
@@ -107,7 +107,7 @@ abbrev pub item_from : ℕ × (Expr × Option Alias) → Item
 item_from parts = record { place = parts.0; expr = parts.1.0; alias = parts.1.1 }
 
 -- expr [[AS] name]
-unfoldable pub item : Limits → Rule Item
+unfoldable pub item : Limits → Grammar Item
 item l = tree item_from (placed (both (whole_expr l) (perhaps alias)))
 
 abbrev pub items_from : ℕ × (Lexeme ⊎ (Item × List Item)) → SelectItems
@@ -115,7 +115,7 @@ items_from (place, inl star) = items.Star place
 items_from (place, inr parts) = items.Listed place parts.0 parts.1
 
 -- "*" | item {"," item}
-unfoldable pub select_items : Limits → Rule SelectItems
+unfoldable pub select_items : Limits → Grammar SelectItems
 select_items l = tree items_from (placed (choice (fixed symbol.Star) (listed (item l))))
 
 abbrev pub PartitionParts : Type 0
@@ -125,7 +125,7 @@ abbrev pub partition_from : PartitionParts → Partition
 partition_from parts = record { place = parts.0.place; first = parts.1.1.1.1.0.0; more = parts.1.1.1.1.0.1 }
 
 -- OVER "(" PARTITION BY column {"," column} ")"
-unfoldable pub partition : Limits → Rule Partition
+unfoldable pub partition : Limits → Grammar Partition
 partition l =
     tree partition_from
     (both (fixed symbol.Over)
@@ -136,25 +136,25 @@ abbrev pub group_from : ℕ × (Expr × Option Partition) → Group
 group_from parts = record { place = parts.0; expr = parts.1.0; partition = parts.1.1 }
 
 -- expr [OVER "(" PARTITION BY column {"," column} ")"]
-unfoldable pub group : Limits → Rule Group
+unfoldable pub group : Limits → Grammar Group
 group l = tree group_from (placed (both (whole_expr l) (perhaps (partition l))))
 
 abbrev pub group_by_from : Lexeme × (Lexeme × (Group × List Group)) → GroupBy
 group_by_from parts = record { place = parts.0.place; first = parts.1.1.0; more = parts.1.1.1 }
 
 -- GROUP BY group {"," group}
-unfoldable pub group_by : Limits → Rule GroupBy
+unfoldable pub group_by : Limits → Grammar GroupBy
 group_by l = tree group_by_from (both (fixed symbol.Group) (both (fixed symbol.By) (listed (group l))))
 
 abbrev pub having_from : Lexeme × Expr → Having
 having_from parts = record { place = parts.0.place; condition = parts.1 }
 
 -- HAVING expr
-unfoldable pub having : Limits → Rule Having
+unfoldable pub having : Limits → Grammar Having
 having l = tree having_from (both (fixed symbol.Having) (whole_expr l))
 
 -- WHERE expr
-unfoldable pub condition : Limits → Rule Expr
+unfoldable pub condition : Limits → Grammar Expr
 condition l = tree second_of (both (fixed symbol.Where) (whole_expr l))
 
 abbrev pub TailParts : Type 0
@@ -171,7 +171,7 @@ tail_from parts = record {
 }
 
 -- FROM source {join} [WHERE expr] [GROUP BY group {"," group}] [HAVING expr]
-unfoldable pub tail : Limits → Rule Tail
+unfoldable pub tail : Limits → Grammar Tail
 tail l =
     tree tail_from
     (both (fixed symbol.From)
@@ -182,11 +182,11 @@ abbrev pub select_from : Lexeme × (SelectItems × Tail) → Select
 select_from parts = record { place = parts.0.place; items = parts.1.0; tail = parts.1.1 }
 
 -- SELECT items tail
-unfoldable pub select : Limits → Rule Select
+unfoldable pub select : Limits → Grammar Select
 select l = tree select_from (both (fixed symbol.Select) (both (select_items l) (tail l)))
 
 -- UNION select
-unfoldable pub union_more : Limits → Rule Select
+unfoldable pub union_more : Limits → Grammar Select
 union_more l = tree second_of (both (fixed symbol.Union) (select l))
 
 -- ---- statements
@@ -195,7 +195,7 @@ abbrev pub union_from : Select × List Select → Union
 union_from parts = record { place = parts.0.place; first = parts.0; more = parts.1 }
 
 -- select {UNION select}
-unfoldable pub union : Limits → Rule Union
+unfoldable pub union : Limits → Grammar Union
 union l = tree union_from (both (select l) (repeated (union_more l)))
 
 abbrev pub DefParts : Type 0
@@ -205,7 +205,7 @@ abbrev pub def_from : DefParts → Def
 def_from parts = record { place = parts.0.place; name = parts.0; union = parts.1.1.1.0 }
 
 -- name AS "(" union ")"
-unfoldable pub def : Limits → Rule Def
+unfoldable pub def : Limits → Grammar Def
 def l =
     tree def_from
     (both name
@@ -216,7 +216,7 @@ abbrev pub with_from : Lexeme × (Def × List Def) → With
 with_from parts = record { place = parts.0.place; first = parts.1.0; more = parts.1.1 }
 
 -- WITH def {"," def}
-unfoldable pub with_defs : Limits → Rule With
+unfoldable pub with_defs : Limits → Grammar With
 with_defs l = tree with_from (both (fixed symbol.With) (listed (def l)))
 
 abbrev pub StmtParts : Type 0
@@ -232,7 +232,7 @@ stmt_from parts = record {
 }
 
 -- SELECT items INTO name tail {UNION select}
-unfoldable pub stmt : Limits → Rule Stmt
+unfoldable pub stmt : Limits → Grammar Stmt
 stmt l =
     tree stmt_from
     (both (fixed symbol.Select)
@@ -242,14 +242,14 @@ stmt l =
 abbrev pub place_of : Lexeme → ℕ
 place_of t = t.place
 
-unfoldable pub semicolon : Rule ℕ
+unfoldable pub semicolon : Grammar ℕ
 semicolon = tree place_of (fixed symbol.Semicolon)
 
 -- a statement, and the place of the semicolon that may stand behind it
 abbrev pub Closed : Type 0
 Closed = Stmt × Option ℕ
 
-unfoldable pub closed : Limits → Rule Closed
+unfoldable pub closed : Limits → Grammar Closed
 closed l = both (stmt l) (perhaps semicolon)
 
 -- the place of a statement with the semicolon before it
@@ -283,9 +283,9 @@ script_from parts = record {
 }
 
 -- [WITH def {"," def}] stmt {[";"] stmt} [";"]
-unfoldable pub statements : Limits → Rule Script
+unfoldable pub statements : Limits → Grammar Script
 statements l = tree script_from (placed (both (perhaps (with_defs l)) (both (closed l) (repeated (closed l)))))
 
 -- and then the end of the text
-abbrev pub script : Limits → Rule Script
+abbrev pub script : Limits → Grammar Script
 script l = ended (statements l)

@@ -1,5 +1,5 @@
 //! The grammar of queries: which tokens stand for which tree, and which begin a query.
-//! Each line of the grammar is a rule over the tokens of query_tokens, with a node of query_tree.
+//! Each line of it is a `Grammar` over the tokens of query_tokens, with a node of query_tree.
 //! What matters: `IsDue` in specs/Queries.antt, the answer that is due for a text, and laws.rt: for
 //! each text one answer is due, and no other.
 //! The meaning: specs/ExpressionGrammar.antt and specs/StatementGrammar.antt, a definition a line;

@@ -3,8 +3,8 @@ use Rattle.std.proofs.Common.{◌≡◌, ℕ, ◌≤◌, ◌<◌, Bool, true, fa
 use Rattle.std.specs.Prelude.{nat_le, nat_lt}
 use Rattle.std.proofs.lemmas.Bool.Decides.{nat_tests}
 use Rattle.std.proofs.lemmas.List.{length-map}
-use Rattle.event_value.specs.declared.plan.Output.{Output}
-use Rattle.event_value.specs.declared.plan.Step.{Step}
+use Rattle.query_plan.specs.declared.plan.Output.{Output}
+use Rattle.query_plan.specs.declared.plan.Step.{Step}
 use Rattle.event_value.specs.declared.record.Stamped.{Stamped}
 use Rattle.row_order.proofs.ListLemmas.{Each-weaker, Each-all, filter-alike, filter-filter, filter-none, filter-passes, filter-within}
 use Rattle.row_order.proofs.StretchLemmas.{IsInOrder-filter, rows_below-append-rows_between, rows_between-append-rows_between}

@@ -1,9 +1,9 @@
 -- What the rows of all steps of a plan owe to the rows of its streams.
 use Rattle.std.proofs.Common.{◌≡◌, ℕ, zero, suc, List, [], ◌∷◌, ◌++◌, map, refl, sym, ap, ◌∙◌, arith}
-use Rattle.event_value.specs.declared.plan.Output.{Output}
-use Rattle.event_value.specs.declared.plan.Step.{Step}
-use Rattle.event_value.specs.declared.plan.Step.TheVariants.{Source, Filter, Project, Union, Grid, Snapshot}
-use Rattle.event_value.specs.declared.plan.Step.TheVariants.{Sliding, Session, Join, Lookup}
+use Rattle.query_plan.specs.declared.plan.Output.{Output}
+use Rattle.query_plan.specs.declared.plan.Step.{Step}
+use Rattle.query_plan.specs.declared.plan.Step.TheVariants.{Source, Filter, Project, Union, Grid, Snapshot}
+use Rattle.query_plan.specs.declared.plan.Step.TheVariants.{Sliding, Session, Join, Lookup}
 use Rattle.event_value.specs.declared.record.Stamped.{Stamped}
 use Rattle.row_order.proofs.ListLemmas.{Each-append}
 use Rattle.row_order.proofs.StretchLemmas.{IsInOrder-filter, rows_below-rows_below}

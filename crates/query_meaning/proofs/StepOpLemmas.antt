@@ -1,8 +1,8 @@
 -- Each operator, as the one of its step.
 use Rattle.std.proofs.Common.{◌≡◌, ℕ, ◌≤◌, Bool, true, false, cond, List, [], ◌++◌, sym, ap, ◌∙◌}
-use Rattle.event_value.specs.declared.plan.Step.{Step}
-use Rattle.event_value.specs.declared.expr.Cond.{Cond}
-use Rattle.event_value.specs.declared.expr.Expr.{Expr}
+use Rattle.query_plan.specs.declared.plan.Step.{Step}
+use Rattle.query_plan.specs.declared.expr.Cond.{Cond}
+use Rattle.query_plan.specs.declared.expr.Expr.{Expr}
 use Rattle.event_value.specs.declared.record.Stamped.{Stamped}
 use Rattle.row_order.proofs.StretchLemmas.{rows_between-new}
 use Rattle.stream_joins.specs.declared.bound_join.BoundSpec.{BoundSpec}

@@ -1,6 +1,6 @@
 -- The rows of a plan's outputs over the log of its streams (docs/ARCHITECTURE).
 use Rattle.std.specs.Prelude.{List, [], map}
-use Rattle.event_value.specs.declared.plan.Output.{Output}
+use Rattle.query_plan.specs.declared.plan.Output.{Output}
 use Rattle.event_value.specs.declared.policy.Policy.{Policy}
 use Rattle.event_value.specs.declared.record.Stamped.{Stamped}
 use Rattle.query_meaning.specs.declared.ready.ReadyPlan.{ReadyPlan}

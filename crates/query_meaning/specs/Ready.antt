@@ -1,14 +1,14 @@
 -- A plan that is ready to run: what its joins take from the columns of the inputs and from the snapshots of
 -- references.
 use Rattle.std.specs.Prelude.{ℕ, ◌+◌, List, [], ◌∷◌, ◌++◌, length, map, get_or, Option, Some, None, slice_get}
-use Rattle.event_value.specs.declared.plan.Plan.{Plan}
-use Rattle.event_value.specs.declared.plan.Step.{Step}
-use Rattle.event_value.specs.declared.plan.Step.TheVariants.{Source, Filter, Project, Union, Grid, Snapshot}
-use Rattle.event_value.specs.declared.plan.Step.TheVariants.{Sliding, Session, Join, Lookup}
-use Rattle.event_value.specs.declared.plan.StreamUse.{StreamUse}
-use Rattle.input_book.specs.declared.inputs.Inputs.{Inputs}
-use Rattle.input_book.specs.declared.inputs.Reference.{Reference}
-use Rattle.input_book.specs.declared.inputs.Stream.{Stream}
+use Rattle.query_plan.specs.declared.plan.Plan.{Plan}
+use Rattle.query_plan.specs.declared.plan.Step.{Step}
+use Rattle.query_plan.specs.declared.plan.Step.TheVariants.{Source, Filter, Project, Union, Grid, Snapshot}
+use Rattle.query_plan.specs.declared.plan.Step.TheVariants.{Sliding, Session, Join, Lookup}
+use Rattle.query_plan.specs.declared.plan.StreamUse.{StreamUse}
+use Rattle.input_types.specs.declared.inputs.Inputs.{Inputs}
+use Rattle.input_types.specs.declared.inputs.Reference.{Reference}
+use Rattle.input_types.specs.declared.inputs.Stream.{Stream}
 use Rattle.stream_joins.specs.Snapshots.{Snapshots}
 use Rattle.query_meaning.specs.declared.ready.ReadyPlan.{ReadyPlan}
 use Rattle.query_meaning.specs.declared.ready.ReadyStep.{ReadyStep}

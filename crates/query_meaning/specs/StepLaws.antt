@@ -1,10 +1,10 @@
 -- The laws of the meanings of steps, by those of the operators.
 use Rattle.std.specs.Prelude.{◌≡◌, ℕ, ◌-◌, Bool, true, false, cond, unsigned_abs, List, [], Option, Some, None}
 use Rattle.std.proofs.Common.{refl, subst, sym, arith}
-use Rattle.event_value.specs.declared.expr.Cond.{Cond}
-use Rattle.event_value.specs.declared.plan.Step.{Step}
-use Rattle.event_value.specs.declared.plan.Step.TheVariants.{Source, Filter, Project, Union, Grid, Snapshot}
-use Rattle.event_value.specs.declared.plan.Step.TheVariants.{Sliding, Session, Join, Lookup}
+use Rattle.query_plan.specs.declared.expr.Cond.{Cond}
+use Rattle.query_plan.specs.declared.plan.Step.{Step}
+use Rattle.query_plan.specs.declared.plan.Step.TheVariants.{Source, Filter, Project, Union, Grid, Snapshot}
+use Rattle.query_plan.specs.declared.plan.Step.TheVariants.{Sliding, Session, Join, Lookup}
 use Rattle.event_value.specs.declared.record.Stamped.{Stamped}
 use Rattle.row_order.proofs.StretchLemmas.{rows_below-rows_below, rows_from-rows_from}
 use Rattle.stream_joins.specs.Bound.{bound_reach}

@@ -1,9 +1,9 @@
 -- Which step an operator runs, and which rows it was given.
 use Rattle.std.specs.Prelude.{◌≡◌, ℕ, ℤ, Bool, List, []}
-use Rattle.event_value.specs.declared.expr.Cond.{Cond}
-use Rattle.event_value.specs.declared.expr.Expr.{Expr}
-use Rattle.event_value.specs.declared.plan.Aggregate.{Aggregate}
-use Rattle.event_value.specs.declared.plan.Step.TheVariants as step
+use Rattle.query_plan.specs.declared.expr.Cond.{Cond}
+use Rattle.query_plan.specs.declared.expr.Expr.{Expr}
+use Rattle.event_value.specs.declared.aggregate.Aggregate.{Aggregate}
+use Rattle.query_plan.specs.declared.plan.Step.TheVariants as step
 use Rattle.event_value.specs.declared.record.Stamped.{Stamped}
 use Rattle.stream_joins.specs.declared.bound_join.BoundSpec.{BoundSpec}
 use Rattle.stream_joins.specs.declared.reference_join.ReferenceSpec.{ReferenceSpec}

@@ -1,11 +1,11 @@
 -- The rows of each step of a plan, by its operator's own definition over the rows of earlier steps.
 use Rattle.std.specs.Prelude.{ℕ, ℤ, List, [], ◌∷◌, ◌++◌, map, Bool, if◌then◌else◌, Option, Some, None, slice_get}
-use Rattle.event_value.specs.declared.expr.Cond.{Cond}
-use Rattle.event_value.specs.declared.expr.Expr.{Expr}
-use Rattle.event_value.specs.declared.plan.Aggregate.{Aggregate}
-use Rattle.event_value.specs.declared.plan.Step.{Step}
-use Rattle.event_value.specs.declared.plan.Step.TheVariants.{Source, Filter, Project, Union, Grid, Snapshot}
-use Rattle.event_value.specs.declared.plan.Step.TheVariants.{Sliding, Session, Join, Lookup}
+use Rattle.query_plan.specs.declared.expr.Cond.{Cond}
+use Rattle.query_plan.specs.declared.expr.Expr.{Expr}
+use Rattle.event_value.specs.declared.aggregate.Aggregate.{Aggregate}
+use Rattle.query_plan.specs.declared.plan.Step.{Step}
+use Rattle.query_plan.specs.declared.plan.Step.TheVariants.{Source, Filter, Project, Union, Grid, Snapshot}
+use Rattle.query_plan.specs.declared.plan.Step.TheVariants.{Sliding, Session, Join, Lookup}
 use Rattle.event_value.specs.declared.record.Stamped.{Stamped}
 use Rattle.event_value.specs.declared.value.Value.{Value}
 use Rattle.expr_eval.specs.Truths.{is_true}

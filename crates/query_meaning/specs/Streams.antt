@@ -1,8 +1,8 @@
 -- The events of the streams that a plan uses, and their dropped records: each lane is judged by the policy,
 -- by the stream's TIMESTAMP BY and by its OVER (docs/INPUTS, "Verdicts").
-use Rattle.std.specs.Prelude.{ℕ, ◌+◌, min, List, [], ◌∷◌, ◌++◌, map, length, nat_lt, Option, Some, None, is_some, slice_get}
-use Rattle.event_value.specs.declared.expr.Expr.{Expr}
-use Rattle.event_value.specs.declared.plan.StreamUse.{StreamUse}
+use Rattle.std.specs.Prelude.{ℕ, ◌+◌, min, List, [], ◌∷◌, ◌++◌, map, length, nat_lt, Option, Some, None, is_some}
+use Rattle.query_plan.specs.declared.expr.Expr.{Expr}
+use Rattle.query_plan.specs.declared.plan.StreamUse.{StreamUse}
 use Rattle.event_value.specs.declared.policy.Policy.{Policy}
 use Rattle.event_value.specs.declared.record.Dropped.{Dropped}
 use Rattle.event_value.specs.declared.record.Event.{Event}
@@ -10,7 +10,7 @@ use Rattle.event_value.specs.declared.record.Stamped.{Stamped}
 use Rattle.event_value.specs.declared.value.Value.{Value}
 use Rattle.event_value.specs.declared.value.Value.TheVariants.{Null, Bit, Big, Fixed, Text, Moment}
 use Rattle.arrival_log.specs.Kept.{HeardLane, Judge, lane_drops, least_watermark, stream_events}
-use Rattle.expr_eval.specs.Values.{or_null, value_of}
+use Rattle.expr_eval.specs.Values.{column, value_of}
 use Rattle.tick_time.specs.Moment.{end_ticks}
 use Rattle.time_policy.specs.PolicyState.{rules_of}
 
@@ -33,13 +33,9 @@ abbrev pub stamp_of : Option Expr → List Value → Option ℕ
 stamp_of None values = None
 stamp_of (Some expr) values = moment_in (value_of values 0 expr)
 
--- the value of a column; Null past the values
-abbrev pub column_at : List Value → ℕ → Value
-column_at values place = or_null (slice_get values place)
-
 -- the substream of a record with these values: the values of the OVER columns
 abbrev pub substream_of : List ℕ → List Value → List Value
-substream_of over values = map (column_at values) over
+substream_of over values = map (column values) over
 
 -- how the records of a stream are judged
 abbrev pub judge_of : Policy → StreamUse → Judge

@@ -3,8 +3,9 @@
 ghost use Rattle.std.specs.Prelude.{◌≡◌, IfOk};
 ghost use Rattle.query_meaning.specs.Streams as spec;
 
-use event_value::{Copies, Memory, Seq, StreamUse, Value};
-use expr_eval::eval;
+use event_value::{Memory, Seq, Value};
+use expr_eval::{column, eval};
+use query_plan::StreamUse;
 use std::alloc::Global;
 use tick_time::Moment;
 
@@ -44,17 +45,7 @@ pub fn substream_of(alloc: Global, used: &StreamUse, values: &[Value]) -> Result
     let mut key = Seq::empty(alloc);
     let over = used.over.items();
     for place in over {
-        key.push(column_at(values, *place)?)?;
+        key.push(column(values, *place)?)?;
     }
     Ok(key)
-}
-
-// The value of a column; Null past the values.
-fn column_at(values: &[Value], place: u16) -> Result<Value, Memory>
-    ensures { IfOk result (λ found. found ≡ spec.column_at values.now place) }
-{
-    match values.get(place as usize) {
-        None => Ok(Value::Null),
-        Some(value) => value.copy(),
-    }
 }

@@ -11,7 +11,8 @@ ghost use Rattle.stream_op.specs.Rows.{between};
 
 use crate::pieces::{longest_of, moment_within, rows_between};
 use crate::{ReadyPlan, ReadyStep, StepOp};
-use event_value::{Memory, Output, Seq, Stamped, Step};
+use event_value::{Memory, Seq, Stamped};
+use query_plan::{Output, Step};
 use std::alloc::Global;
 use stream_op::{StreamOp, push_rows};
 use tick_time::Moment;

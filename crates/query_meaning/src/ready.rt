@@ -4,8 +4,9 @@
 ghost use Rattle.std.specs.Prelude.{◌≡◌, ◌+◌, IfOk, map};
 ghost use Rattle.query_meaning.specs.Ready as spec;
 
-use event_value::{Copies, Memory, Output, Plan, Seq, Step, StreamUse};
-use input_book::Inputs;
+use event_value::{Copies, Memory, Seq};
+use input_types::Inputs;
+use query_plan::{Output, Plan, Step, StreamUse};
 use std::alloc::Global;
 use stream_joins::Versions;
 

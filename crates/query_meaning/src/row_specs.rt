@@ -5,8 +5,9 @@ ghost use Rattle.std.specs.Prelude.{◌≡◌, IfOk};
 ghost use Rattle.expr_eval.specs.Values.{value_of};
 ghost use Rattle.query_meaning.specs.Steps.{passes, values_over};
 
-use event_value::{Cond, Copies, Expr, Memory, Seq, Stamped, Value};
+use event_value::{Copies, Memory, Seq, Stamped, Value};
 use expr_eval::{eval, holds};
+use query_plan::{Cond, Expr};
 use std::alloc::Global;
 use std::marker::Model;
 use stream_op::{RowBuild, RowTest};
@@ -19,8 +20,8 @@ pub struct RowCond {
 }
 
 impl Model for RowCond {
-    ghost use Rattle.event_value.specs.contracts.expr.Cond as cond_type;
-    ghost use Rattle.event_value.specs.declared.expr.Cond.{Cond};
+    ghost use Rattle.query_plan.specs.contracts.expr.Cond as cond_type;
+    ghost use Rattle.query_plan.specs.declared.expr.Cond.{Cond};
     ghost use Rattle.std.specs.Coded.{codes};
 
     ghost Value = { Cond };
@@ -68,8 +69,8 @@ pub struct RowExprs {
 
 impl Model for RowExprs {
     ghost use Rattle.std.specs.Prelude.{List};
-    ghost use Rattle.event_value.specs.contracts.expr.Expr as expr_type;
-    ghost use Rattle.event_value.specs.declared.expr.Expr.{Expr};
+    ghost use Rattle.query_plan.specs.contracts.expr.Expr as expr_type;
+    ghost use Rattle.query_plan.specs.declared.expr.Expr.{Expr};
     ghost use Rattle.std.specs.Coded.{codes};
 
     ghost Value = { List Expr };

@@ -1,13 +1,14 @@
 //! How the operator of a step of each kind is begun.
 
 ghost use Rattle.std.specs.Prelude.{◌≡◌, ℕ, [], IfOk};
-ghost use Rattle.event_value.specs.declared.plan.Step.TheVariants as kinds;
+ghost use Rattle.query_plan.specs.declared.plan.Step.TheVariants as kinds;
 ghost use Rattle.query_meaning.specs.Pipeline.{has_taken};
 ghost use Rattle.query_meaning.specs.declared.ready.ReadyStep.{ReadyStep};
 
 use crate::step_op::{boxed_join, boxed_window};
 use crate::{JoinOp, ReadyStep, RowCond, RowExprs, StepOp, WindowOp};
-use event_value::{Aggregate, Cond, Copies, Expr, Memory, Seq};
+use event_value::{Aggregate, Copies, Memory, Seq};
+use query_plan::{Cond, Expr};
 use std::alloc::Global;
 use stream_joins::{BoundJoin, BoundSpec, JoinCond, ReferenceJoin, ReferenceSpec};
 use stream_op::{Filter, Project, StreamOp, Union};

@@ -18,7 +18,8 @@ use crate::step_begin::{
     begin_sliding, begin_snapshot, begin_union,
 };
 use crate::{ReadyStep, RowCond, RowExprs};
-use event_value::{Memory, Seq, Stamped, Step};
+use event_value::{Memory, Seq, Stamped};
+use query_plan::Step;
 use sqlite_items::Boxed;
 use std::alloc::Global;
 use stream_joins::{BoundJoin, JoinCond, ReferenceJoin};

@@ -2,7 +2,7 @@
 use Rattle.std.specs.Prelude.{ℕ, ◌==◌, ◌&&◌, ◌||◌, Bool, true, false, if◌then◌else◌, List, [], ◌∷◌, ◌++◌, codes, ℤ, pos, int_rem}
 use Rattle.std.specs.List.{flat_map, list_all}
 use Rattle.std.specs.Ordering.{int_eq}
-use Rattle.event_value.specs.Printed.{value_text, million}
+use Rattle.value_text.specs.Printed.{value_text, million}
 use Rattle.event_value.specs.declared.value.Value.TheVariants.{Big, Fixed as fixed_value}
 use Rattle.query_tokens.specs.declared.symbol.Symbol.{Symbol}
 use Rattle.query_tokens.specs.declared.symbol.Symbol.TheVariants as symbol

@@ -6,7 +6,7 @@ ghost use Rattle.query_print.specs.Words.{behind_point, behind_fixed, behind_nam
 use query_tokens::{Symbol, is_same_word};
 
 /// What the last words are to the next one.
-#[derive(Clone, Copy, Debug, PartialEq, Eq)]
+#[derive(Clone, Copy, PartialEq, Eq)]
 pub enum Behind {
     /// There are none.
     Start,

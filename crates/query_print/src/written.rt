@@ -6,9 +6,10 @@ ghost use Rattle.query_tokens.specs.Bytes.{is_word_byte};
 ghost use Rattle.query_print.specs.Words.{is_word, is_plain, is_bare, name_text, number_text, zero_behind_point, doubled, quoted, space_unless};
 
 use crate::behind::{Behind, is_behind_stamp_point};
-use event_value::{Memory, Text, Value, push_value};
+use event_value::{Memory, Text, Value};
 use query_tokens::{Symbol, TokenKind, is_same_word, is_word_byte, is_word_start, symbol_at};
 use query_tree::Number;
+use value_text::push_value;
 
 /// How many millionths make one.
 const MILLION: i64 = 1_000_000;

@@ -4,10 +4,10 @@ use Rattle.tick_time.specs.Unit.{is_name}
 use Rattle.tick_time.specs.Part.{part_named}
 use Rattle.tick_time.specs.declared.part.Part.{Part}
 use Rattle.tick_time.specs.declared.part.Part.TheVariants as part
-use Rattle.event_value.specs.declared.expr.Op.{Op}
-use Rattle.event_value.specs.declared.expr.Op.TheVariants as op
-use Rattle.event_value.specs.declared.plan.AggKind.{AggKind}
-use Rattle.event_value.specs.declared.plan.AggKind.TheVariants as agg
+use Rattle.query_plan.specs.declared.expr.Op.{Op}
+use Rattle.query_plan.specs.declared.expr.Op.TheVariants as op
+use Rattle.event_value.specs.declared.aggregate.AggKind.{AggKind}
+use Rattle.event_value.specs.declared.aggregate.AggKind.TheVariants as agg
 use Rattle.query_tree.specs.declared.name.Name.{Name}
 use Rattle.query_tree.specs.declared.name.Path.{Path}
 use Rattle.query_forms.specs.declared.form.Form.{Form}

@@ -4,10 +4,10 @@ use Rattle.std.specs.Str.{bytes_eq}
 use Rattle.event_value.specs.declared.kind.Kind.{Kind}
 use Rattle.event_value.specs.declared.kind.Kind.TheVariants as kind
 use Rattle.event_value.specs.declared.value.Value.TheVariants as value
-use Rattle.event_value.specs.declared.expr.Expr.{Expr}
-use Rattle.event_value.specs.declared.expr.Expr.TheVariants as expr
-use Rattle.event_value.specs.declared.plan.AggKind.{AggKind}
-use Rattle.event_value.specs.declared.plan.AggKind.TheVariants as agg
+use Rattle.query_plan.specs.declared.expr.Expr.{Expr}
+use Rattle.query_plan.specs.declared.expr.Expr.TheVariants as expr
+use Rattle.event_value.specs.declared.aggregate.AggKind.{AggKind}
+use Rattle.event_value.specs.declared.aggregate.AggKind.TheVariants as agg
 use Rattle.query_tree.specs.declared.name.Name.{Name}
 use Rattle.query_tree.specs.declared.name.Path.{Path}
 use Rattle.query_readings.specs.declared.columns.Finding.{Finding}

@@ -5,14 +5,14 @@ use Rattle.std.specs.Str.{bytes_eq}
 use Rattle.tick_time.specs.declared.part.Part.{Part}
 use Rattle.tick_time.specs.declared.part.Part.TheVariants as part
 use Rattle.event_value.specs.declared.value.Value.{Value}
-use Rattle.event_value.specs.declared.expr.Op.{Op}
-use Rattle.event_value.specs.declared.expr.Op.TheVariants as op
-use Rattle.event_value.specs.declared.expr.Rel.{Rel}
-use Rattle.event_value.specs.declared.expr.Rel.TheVariants as rel
-use Rattle.event_value.specs.declared.expr.Expr.{Expr, fold-Expr, out-Expr}
-use Rattle.event_value.specs.declared.expr.Branch.{Branch, fold-Branch, out-Branch}
-use Rattle.event_value.specs.declared.expr.Cond.{Cond, fold-Cond, out-Cond}
-use Rattle.event_value.specs.declared.expr.Cond.TheOpen.{Expr-F, Cond-F, Branch-F}
+use Rattle.query_plan.specs.declared.expr.Op.{Op}
+use Rattle.query_plan.specs.declared.expr.Op.TheVariants as op
+use Rattle.query_plan.specs.declared.expr.Rel.{Rel}
+use Rattle.query_plan.specs.declared.expr.Rel.TheVariants as rel
+use Rattle.query_plan.specs.declared.expr.Expr.{Expr, fold-Expr, out-Expr}
+use Rattle.query_plan.specs.declared.expr.Branch.{Branch, fold-Branch, out-Branch}
+use Rattle.query_plan.specs.declared.expr.Cond.{Cond, fold-Cond, out-Cond}
+use Rattle.query_plan.specs.declared.expr.Cond.TheOpen.{Expr-F, Cond-F, Branch-F}
 use Rattle.event_value.specs.Order.{value_order}
 use Rattle.query_forms.specs.Kinds.{is_same_kind}
 

@@ -7,8 +7,9 @@ ghost use Rattle.query_readings.specs.declared.columns.Found.TheVariants as spec
 use crate::functions::is_time;
 use crate::reading::{Face, Outcome, Reading, column_sense, keyed, plain, refused_reading};
 use crate::scope::{Scope, ScopeColumn, ScopeSource};
-use event_value::{Copies, Expr, Kind, Memory, Seq, Value};
+use event_value::{Copies, Kind, Memory, Seq, Value};
 use query_forms::{Rule, Sense, Valued, refuse};
+use query_plan::Expr;
 use query_tree::Path;
 use std::alloc::Global;
 

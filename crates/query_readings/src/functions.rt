@@ -4,8 +4,9 @@ ghost use Rattle.std.specs.Prelude.{◌≡◌};
 ghost use Rattle.query_readings.specs.Functions as spec;
 
 use crate::reading::Face;
-use event_value::{AggKind, Op};
+use event_value::AggKind;
 use query_forms::Form;
+use query_plan::Op;
 use query_tree::{Name, Path};
 use tick_time::{Part, is_name, part_of};
 

@@ -5,8 +5,9 @@ ghost use Rattle.query_readings.specs.Reading as spec;
 
 use crate::same::is_same_expr;
 use crate::scope::{GroupKey, Scope};
-use event_value::{AggKind, Copies, Expr, Kind, Memory, Seq, Text};
+use event_value::{AggKind, Copies, Kind, Memory, Seq, Text};
 use query_forms::{Checked, Fault, Form, Rule, Sense, Valued, push_faults, refuse, shaped};
+use query_plan::Expr;
 use std::alloc::Global;
 
 /// What a part of a query is in a plan, or all the faults in it.

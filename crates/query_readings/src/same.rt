@@ -3,8 +3,9 @@
 ghost use Rattle.std.specs.Prelude.{◌≡◌};
 ghost use Rattle.query_readings.specs.Same as spec;
 
-use event_value::{Branch, Cond, Expr, Op, Rel, Value, order};
+use event_value::{Value, order};
 use query_forms::is_same_kind;
+use query_plan::{Branch, Cond, Expr, Op, Rel};
 use std::cmp::Ordering;
 use tick_time::Part;
 

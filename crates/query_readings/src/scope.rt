@@ -1,6 +1,7 @@
 //! `Scope`, what the names in an expression can mean.
 
-use event_value::{Expr, Kind, Seq, Text};
+use event_value::{Kind, Seq, Text};
+use query_plan::Expr;
 
 /// A column that an expression may name.
 #[derive(Drop)]

@@ -5,7 +5,7 @@ use Rattle.std.proofs.lemmas.Fmt.{decimal_by_steps}
 use Rattle.std.specs.Fmt.{decimal}
 use Rattle.std.specs.List.{list_all}
 use Rattle.std.specs.Prelude.{◌==◌, ◌&&◌, if◌then◌else◌}
-use Rattle.event_value.specs.Printed.{fraction_digits}
+use Rattle.value_text.specs.Printed.{fraction_digits}
 use Rattle.query_tokens.specs.Bytes.{is_digit}
 use Rattle.query_tokens.proofs.SymbolLemmas.{equal_numbers}
 use Rattle.query_tokens.specs.Steps.{value_from}

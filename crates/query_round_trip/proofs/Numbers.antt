@@ -6,7 +6,7 @@ use Rattle.std.specs.Fmt.{decimal}
 use Rattle.std.specs.List.{prefix_len, list_all, take_while}
 use Rattle.std.specs.Ordering.{int_eq}
 use Rattle.std.specs.Prelude.{◌==◌, ◌&&◌, if◌then◌else◌, nat_le, slice_index, codes, Option, Some, None, unwrap_or, pos}
-use Rattle.event_value.specs.Printed.{million, fraction_digits, fraction_text, places_behind_point}
+use Rattle.value_text.specs.Printed.{million, fraction_digits, fraction_text, places_behind_point}
 use Rattle.query_tokens.specs.declared.step.Step.TheVariants.{Skip, Token}
 use Rattle.query_tokens.specs.declared.token.TokenKind.TheVariants as kind
 use Rattle.query_tokens.specs.Bytes.{max_number, max_decimals, point, dash, slash, quote, open_bracket, is_blank, is_word_start, is_digit}

@@ -1,10 +1,10 @@
--- What is known of a rule and of how its trees are written: the words of its tokens, and that tokens which are alike
--- to those of a tree are those of a tree that is equal but for its places. Each way to join rules keeps it.
+-- What is known of a grammar and of how its trees are written: the words of its tokens, and that tokens which are alike
+-- to those of a tree are those of a tree that is equal but for its places. Each way to join grammars keeps it.
 use Rattle.std.proofs.Common.{◌≡◌, ◌⊎◌, ◌≤◌, inl, inr, ℕ, zero, suc, List, [], ◌∷◌, ◌++◌, Bool, true, false, refl, ap, sym, ◌∙◌, subst, map}
 use Rattle.std.specs.Prelude.{Option, Some, None, is_some, ◌==◌, ◌||◌}
 use Rattle.std.specs.Option.{option_map}
 use Rattle.grammar_rules.specs.Lexemes.{Lexeme, among, first_place}
-use Rattle.grammar_rules.specs.Rules.{Rule, token, nothing, never, both, tree, placed, choice, option_of, perhaps, either_of, or_else, times, repeated, opened, within}
+use Rattle.grammar_rules.specs.Rules.{Grammar, token, nothing, never, both, tree, placed, choice, option_of, perhaps, either_of, or_else, times, repeated, opened, within}
 use Rattle.query_tokens.specs.declared.symbol.Symbol.{Symbol}
 use Rattle.query_tokens.specs.declared.symbol.Symbol.TheVariants as symbol
 use Rattle.query_tokens.specs.Symbols.{symbol_number, is_symbol}
@@ -16,15 +16,15 @@ use Rattle.query_print.specs.Scripts.{optional, listed as listed_words}
 use Rattle.query_round_trip.proofs.Alike.{word_by, word_of, words_of, words_of-append, Alike, AllAlike, split, alike_length, alike_nil, is_closed, kept_among, is_point, Tidy, done, single, tidy-append}
 
 -- a tree of tokens that is equal to another but for its places
-pub record Again (A V : Type 0) (rule : Rule A) (bare : A → V) (a : A) (us : List Lexeme) : Type 0 where
+pub record Again (A V : Type 0) (grammar : Grammar A) (bare : A → V) (a : A) (us : List Lexeme) : Type 0 where
   pub found : A
-  pub whole : rule.whole us found
+  pub whole : grammar.whole us found
   pub same : bare found ≡ bare a
 
-pub record Printed (A V : Type 0) (rule : Rule A) (spell : A → List Word) (bare : A → V) : Type 0 where
-  pub words : (ts : List Lexeme) (a : A) → rule.whole ts a → words_of ts ≡ spell a
-  pub tidy : (ts : List Lexeme) (a : A) → rule.whole ts a → Tidy (words_of ts)
-  pub again : (ts us : List Lexeme) (a : A) → rule.whole ts a → AllAlike ts us → Again A V rule bare a us
+pub record Printed (A V : Type 0) (grammar : Grammar A) (spell : A → List Word) (bare : A → V) : Type 0 where
+  pub words : (ts : List Lexeme) (a : A) → grammar.whole ts a → words_of ts ≡ spell a
+  pub tidy : (ts : List Lexeme) (a : A) → grammar.whole ts a → Tidy (words_of ts)
+  pub again : (ts us : List Lexeme) (a : A) → grammar.whole ts a → AllAlike ts us → Again A V grammar bare a us
 
 -- ---- the words of parts
 
@@ -84,7 +84,7 @@ module _ (V : Type 0) (set : List ℕ) (spell : Lexeme → List Word) (bare : Le
 
 -- ---- other trees
 
-pub printed_tree : {A B V W : Type 0} {R : Rule A} {s : A → List Word} {r : B → List Word} {b : A → V} {c : B → W} (f : A → B)
+pub printed_tree : {A B V W : Type 0} {R : Grammar A} {s : A → List Word} {r : B → List Word} {b : A → V} {c : B → W} (f : A → B)
     → ((a : A) → s a ≡ r (f a)) → ((a a' : A) → b a' ≡ b a → c (f a') ≡ c (f a)) → Printed A V R s b → Printed B W (tree f R) r c
 printed_tree {A} {B} {V} {W} {R} {s} {r} {b} {c} f spelt kept p = record {
   words = λ ts x w. p.words ts w.0 w.1 ∙ spelt w.0 ∙ ap r (sym w.2);
@@ -95,12 +95,12 @@ printed_tree {A} {B} {V} {W} {R} {s} {r} {b} {c} f spelt kept p = record {
 }
 
 -- a line of the grammar, by the words of its trees, and by its trees without their places
-pub printed_line : {A B V W : Type 0} {R : Rule A} {s : A → List Word} {r : B → List Word} {b : A → V} {c : B → W} → Printed A V R s b → (f : A → B) (g : V → W)
+pub printed_line : {A B V W : Type 0} {R : Grammar A} {s : A → List Word} {r : B → List Word} {b : A → V} {c : B → W} → Printed A V R s b → (f : A → B) (g : V → W)
     → ((a : A) → r (f a) ≡ s a) → ((a : A) → c (f a) ≡ g (b a)) → Printed B W (tree f R) r c
 printed_line {A} {B} {V} {W} {R} {s} {r} {b} {c} p f g spelt bared =
     printed_tree f (λ a. sym (spelt a)) (λ a a' e. bared a' ∙ ap g e ∙ sym (bared a)) p
 
-pub printed_placed : {A V : Type 0} {R : Rule A} {s : A → List Word} {b : A → V} → Printed A V R s b → Printed (ℕ × A) V (placed R) (placed_words s) (placed_bare b)
+pub printed_placed : {A V : Type 0} {R : Grammar A} {s : A → List Word} {b : A → V} → Printed A V R s b → Printed (ℕ × A) V (placed R) (placed_words s) (placed_bare b)
 printed_placed {A} {V} {R} {s} {b} p = record {
   words = λ ts x w. p.words ts x.1 w.1;
   tidy = λ ts x w. p.tidy ts x.1 w.1;
@@ -129,9 +129,9 @@ module _ (s : Symbol) (fix : (bytes : List ℕ) → word_by (symbol_number s) by
     same = λ t u a l. refl;
   })
 
--- ---- one rule and then another
+-- ---- one grammar and then another
 
-pub printed_both : {A B V W : Type 0} {R : Rule A} {S : Rule B} {s : A → List Word} {r : B → List Word} {b : A → V} {c : B → W}
+pub printed_both : {A B V W : Type 0} {R : Grammar A} {S : Grammar B} {s : A → List Word} {r : B → List Word} {b : A → V} {c : B → W}
     → Printed A V R s b → Printed B W S r c → Printed (A × B) (V × W) (both R S) (both_words s r) (both_bare b c)
 printed_both {A} {B} {V} {W} {R} {S} {s} {r} {b} {c} p q = record {
   words = λ ts x w.
@@ -151,9 +151,9 @@ printed_both {A} {B} {V} {W} {R} {S} {s} {r} {b} {c} p q = record {
       };
 }
 
--- ---- one rule or another
+-- ---- one grammar or another
 
-pub printed_choice : {A B V W : Type 0} {R : Rule A} {S : Rule B} {s : A → List Word} {r : B → List Word} {b : A → V} {c : B → W}
+pub printed_choice : {A B V W : Type 0} {R : Grammar A} {S : Grammar B} {s : A → List Word} {r : B → List Word} {b : A → V} {c : B → W}
     → Printed A V R s b → Printed B W S r c → Printed (A ⊎ B) (V ⊎ W) (choice R S) (either_words s r) (either_bare b c)
 printed_choice {A} {B} {V} {W} {R} {S} {s} {r} {b} {c} p q = record { words = choice_words; tidy = choice_tidy; again = choice_again }
   where
@@ -193,7 +193,7 @@ option_bare b (inl a) (inr a') e = cc
 option_bare b (inr a) (inl a') e = cc
 option_bare b (inr a) (inr a') e = refl
 
-pub printed_perhaps : {A V : Type 0} {R : Rule A} {s : A → List Word} {b : A → V} → Printed A V R s b → Printed (Option A) (Option V) (perhaps R) (optional s) (option_map b)
+pub printed_perhaps : {A V : Type 0} {R : Grammar A} {s : A → List Word} {b : A → V} → Printed A V R s b → Printed (Option A) (Option V) (perhaps R) (optional s) (option_map b)
 printed_perhaps {A} {V} {R} {s} {b} p = printed_tree option_of (option_words s) (option_bare b) (printed_choice p printed_nothing)
 
 abbrev pub own : {A : Type 0} → A → A
@@ -222,12 +222,12 @@ either_of_bare b (inl a) (inr a') e = cc
 either_of_bare b (inr a) (inl a') e = cc
 either_of_bare b (inr a) (inr a') e = cc
 
-pub printed_or_else : {A V : Type 0} {R S : Rule A} {s : A → List Word} {b : A → V} → Printed A V R s b → Printed A V S s b → Printed A V (or_else R S) s b
+pub printed_or_else : {A V : Type 0} {R S : Grammar A} {s : A → List Word} {b : A → V} → Printed A V R s b → Printed A V S s b → Printed A V (or_else R S) s b
 printed_or_else {A} {V} {R} {S} {s} {b} p q = printed_tree either_of (either_of_words s) (either_of_bare b) (printed_choice p q)
 
--- ---- a rule any number of times
+-- ---- a grammar any number of times
 
-module _ {A V : Type 0} {R : Rule A} {s : A → List Word} {b : A → V} (p : Printed A V R s b) where
+module _ {A V : Type 0} {R : Grammar A} {s : A → List Word} {b : A → V} (p : Printed A V R s b) where
   times_words : (n : ℕ) (ts : List Lexeme) (xs : List A) → (times n R).whole ts xs → words_of ts ≡ list_words s xs
   times_words zero ts xs w = ap words_of w.0 ∙ ap (list_words s) (sym w.1)
   times_words (suc n) ts xs (inl w) = ap words_of w.0 ∙ ap (list_words s) (sym w.1)
@@ -275,12 +275,12 @@ all_behind sign s [] = refl
 all_behind sign s (x ∷ xs) = ap (λ (ws : List Word). (Fixed sign ∷ s x) ++ ws) (all_behind sign s xs)
 
 -- a part behind a word
-pub printed_behind : {A V : Type 0} {R : Rule A} {s : A → List Word} {b : A → V} (sign : Symbol) → Printed Lexeme (Unit {0}) (fixed sign) (word_alone sign) no_bare → Printed A V R s b
+pub printed_behind : {A V : Type 0} {R : Grammar A} {s : A → List Word} {b : A → V} (sign : Symbol) → Printed Lexeme (Unit {0}) (fixed sign) (word_alone sign) no_bare → Printed A V R s b
     → Printed A V (tree second_of (both (fixed sign) R)) (behind_words sign s) b
 printed_behind {A} {V} {R} {s} {b} sign w p =
     printed_tree second_of (λ a. refl) (λ a a' e. ap (λ (v : Unit {0} × V). v.1) e) (printed_both w p)
 
-pub printed_each_behind : {A V : Type 0} {R : Rule A} {s : A → List Word} {b : A → V} (sign : Symbol) → Printed Lexeme (Unit {0}) (fixed sign) (word_alone sign) no_bare → Printed A V R s b
+pub printed_each_behind : {A V : Type 0} {R : Grammar A} {s : A → List Word} {b : A → V} (sign : Symbol) → Printed Lexeme (Unit {0}) (fixed sign) (word_alone sign) no_bare → Printed A V R s b
     → Printed (List A) (List V) (repeated (tree second_of (both (fixed sign) R))) (λ xs. each_behind sign (map s xs)) (map b)
 printed_each_behind {A} {V} {R} {s} {b} sign w p =
     let q = printed_repeated (printed_behind sign w p) in
@@ -289,19 +289,19 @@ printed_each_behind {A} {V} {R} {s} {b} sign w p =
 abbrev pub listed_by : {A : Type 0} → (A → List Word) → A × List A → List Word
 listed_by s p = listed_words s p.0 p.1
 
-pub printed_listed : {A V : Type 0} {R : Rule A} {s : A → List Word} {b : A → V} → Printed A V R s b
+pub printed_listed : {A V : Type 0} {R : Grammar A} {s : A → List Word} {b : A → V} → Printed A V R s b
     → Printed (A × List A) (V × List V) (listed R) (listed_by s) (both_bare b (map b))
 printed_listed {A} {V} {R} {s} {b} p =
     printed_both p (printed_each_behind symbol.Comma (printed_fixed symbol.Comma (λ bytes. refl) refl refl) p)
 
 -- ---- limits
 
-pub printed_opened : {A V : Type 0} {R : Rule A} {s : A → List Word} {b : A → V} (left : ℕ) (sign : Symbol) → Printed Lexeme (Unit {0}) (fixed sign) (word_alone sign) no_bare → Printed A V R s b
+pub printed_opened : {A V : Type 0} {R : Grammar A} {s : A → List Word} {b : A → V} (left : ℕ) (sign : Symbol) → Printed Lexeme (Unit {0}) (fixed sign) (word_alone sign) no_bare → Printed A V R s b
     → Printed (Lexeme × A) (Unit {0} × V) (opened left (one sign) R) (both_words (word_alone sign) s) (both_bare no_bare b)
 printed_opened zero sign w p = printed_never
 printed_opened (suc left) sign w p = printed_both w p
 
-pub printed_within : {A V : Type 0} {R : Rule A} {s : A → List Word} {b : A → V} (most : ℕ) → Printed A V R s b → Printed A V (within most R) s b
+pub printed_within : {A V : Type 0} {R : Grammar A} {s : A → List Word} {b : A → V} (most : ℕ) → Printed A V R s b → Printed A V (within most R) s b
 printed_within {A} {V} {R} {s} {b} most p = record {
   words = λ ts a w. p.words ts a w.1;
   tidy = λ ts a w. p.tidy ts a w.1;

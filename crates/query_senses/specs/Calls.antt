@@ -1,7 +1,7 @@
 -- What a call of a function is, by the function's name.
 use Rattle.std.specs.Prelude.{ℕ, List, [], ◌∷◌}
-use Rattle.event_value.specs.declared.plan.AggKind.{AggKind}
-use Rattle.event_value.specs.declared.plan.AggKind.TheVariants as agg
+use Rattle.event_value.specs.declared.aggregate.AggKind.{AggKind}
+use Rattle.event_value.specs.declared.aggregate.AggKind.TheVariants as agg
 use Rattle.query_tree.specs.declared.name.Path.{Path}
 use Rattle.query_senses.specs.declared.calls.Given.{Given}
 use Rattle.query_senses.specs.declared.calls.Mark.{Mark}

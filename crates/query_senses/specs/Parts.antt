@@ -4,7 +4,7 @@ use Rattle.tick_time.specs.Unit.{is_name}
 use Rattle.event_value.specs.declared.kind.Kind.{Kind}
 use Rattle.event_value.specs.declared.kind.Kind.TheVariants as kind
 use Rattle.event_value.specs.declared.value.Value.TheVariants as value
-use Rattle.event_value.specs.declared.expr.Expr.TheVariants as expr
+use Rattle.query_plan.specs.declared.expr.Expr.TheVariants as expr
 use Rattle.query_tree.specs.declared.name.Name.{Name}
 use Rattle.query_tree.specs.declared.name.Number.{Number}
 use Rattle.query_tree.specs.declared.name.Number.TheVariants.{Whole, Decimal}

@@ -2,8 +2,8 @@
 use Rattle.std.specs.Prelude.{map, ℕ, is_some, Option, Some, None, List, [], ◌∷◌, ◌++◌}
 use Rattle.event_value.specs.declared.kind.Kind.TheVariants as kind
 use Rattle.event_value.specs.declared.value.Value.TheVariants as value
-use Rattle.event_value.specs.declared.expr.Op.TheVariants as op
-use Rattle.event_value.specs.declared.expr.Expr.TheVariants as expr
+use Rattle.query_plan.specs.declared.expr.Op.TheVariants as op
+use Rattle.query_plan.specs.declared.expr.Expr.TheVariants as expr
 use Rattle.query_tree.specs.declared.expr.Args.TheOpen.{Args-F, Call-F, Not-F, PredRest-F, Primary-F, Unary-F}
 use Rattle.query_tree.specs.declared.expr.Args.{Args, fold-Args}
 use Rattle.query_tree.specs.declared.expr.Call.{Call, fold-Call}

@@ -5,8 +5,9 @@ ghost use Rattle.query_senses.specs.Readings as spec;
 
 use crate::calls::{Given, Mark, called};
 use crate::parts::{cast_reading, mark_of, nested, nothing_given, number_sense, pred_reading};
-use event_value::{Copies, Expr, Kind, Memory, Op, Seq, Value};
+use event_value::{Copies, Kind, Memory, Seq, Value};
 use query_forms::{Form, Sense, Valued, prod_form, rel_of, sum_form};
+use query_plan::{Expr, Op};
 use query_readings::{
     Face, Part, Reading, Rest, Scope, chain, column_reading, formed, formed_of_one, like_form,
     operations, plain,

@@ -4,8 +4,9 @@ ghost use Rattle.std.specs.Prelude.{◌≡◌, IfOk};
 ghost use Rattle.query_senses.specs.Parts as spec;
 
 use crate::calls::{Given, Mark};
-use event_value::{Expr, Kind, Memory, Seq, Value};
+use event_value::{Kind, Memory, Seq, Value};
 use query_forms::{Form, Rule, Sense, Valued, refuse};
+use query_plan::Expr;
 use query_readings::{Face, Outcome, Reading, Rest, Scope, formed, formed_of_one, refused_reading};
 use query_tree::{Number, TypeName};
 use std::alloc::Global;

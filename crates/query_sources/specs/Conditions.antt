@@ -1,7 +1,7 @@
 -- Readings where a condition is due, or a value: the reverse is refused at the whole expression.
 use Rattle.std.specs.Prelude.{ℕ, Ok, Err}
-use Rattle.event_value.specs.declared.expr.Cond.{Cond}
-use Rattle.event_value.specs.declared.plan.Step.TheVariants.{Filter}
+use Rattle.query_plan.specs.declared.expr.Cond.{Cond}
+use Rattle.query_plan.specs.declared.plan.Step.TheVariants.{Filter}
 use Rattle.query_tree.specs.declared.expr.Expr.{Expr, out-Expr}
 use Rattle.query_forms.specs.declared.fault.Rule.TheVariants as rule
 use Rattle.query_readings.specs.declared.reading.Side.{Side}

@@ -1,6 +1,6 @@
 -- A plan while its script is read: the faults, the streams that are named, the steps.
 use Rattle.std.specs.Prelude.{ℕ, ◌+◌, nat_le, nat_lt, ◌&&◌, if◌then◌else◌, List, [], ◌∷◌, ◌++◌, length}
-use Rattle.event_value.specs.declared.plan.Step.{Step}
+use Rattle.query_plan.specs.declared.plan.Step.{Step}
 use Rattle.query_forms.specs.declared.fault.Fault.{Fault}
 use Rattle.query_forms.specs.declared.fault.Rule.{Rule}
 use Rattle.query_forms.specs.declared.fault.Rule.TheVariants as rule

@@ -1,10 +1,10 @@
 -- The joins of a select in their order: what each adds to the steps, or why it is refused.
 use Rattle.std.specs.Prelude.{ℕ, ◌+◌, ◌==◌, Bool, true, false, if◌then◌else◌, Option, Some, None, Ok, Err, List, [], ◌∷◌, pos}
-use Rattle.event_value.specs.declared.expr.Cond.{Cond}
-use Rattle.event_value.specs.declared.expr.Cond.TheVariants.{Compare}
-use Rattle.event_value.specs.declared.expr.Expr.TheVariants.{Lit}
-use Rattle.event_value.specs.declared.expr.Rel.TheVariants.{Eq}
-use Rattle.event_value.specs.declared.plan.Step.TheVariants as step
+use Rattle.query_plan.specs.declared.expr.Cond.{Cond}
+use Rattle.query_plan.specs.declared.expr.Cond.TheVariants.{Compare}
+use Rattle.query_plan.specs.declared.expr.Expr.TheVariants.{Lit}
+use Rattle.query_plan.specs.declared.expr.Rel.TheVariants.{Eq}
+use Rattle.query_plan.specs.declared.plan.Step.TheVariants as step
 use Rattle.event_value.specs.declared.value.Value.TheVariants.{Big}
 use Rattle.query_tree.specs.declared.expr.Expr.{Expr, out-Expr}
 use Rattle.query_tree.specs.declared.select.Tail.{Tail}

@@ -2,9 +2,9 @@
 use Rattle.std.specs.Prelude.{map, ℕ, ◌+◌, if◌then◌else◌, Option, Some, None, List, [], ◌∷◌, ◌++◌, length}
 use Rattle.std.specs.Str.{bytes_eq}
 use Rattle.event_value.specs.declared.kind.Column.{Column}
-use Rattle.event_value.specs.declared.plan.Step.TheVariants.{Source}
-use Rattle.input_book.specs.declared.inputs.Reference.{Reference}
-use Rattle.input_book.specs.declared.inputs.Stream.{Stream}
+use Rattle.query_plan.specs.declared.plan.Step.TheVariants.{Source}
+use Rattle.input_types.specs.declared.inputs.Reference.{Reference}
+use Rattle.input_types.specs.declared.inputs.Stream.{Stream}
 use Rattle.query_tree.specs.declared.name.Name.{Name}
 use Rattle.query_sources.specs.declared.known.KnownSource.{KnownSource}
 use Rattle.query_sources.specs.declared.known.Origin.TheVariants as origin

@@ -2,7 +2,7 @@
 use Rattle.std.specs.Prelude.{ℕ, ◌==◌, nat_eq, Bool, true, false, not, ◌&&◌, if◌then◌else◌, Option, Some, None, Ok, Err, List, [], ◌∷◌, ◌++◌}
 use Rattle.std.specs.Cmp.Lexicographic.{pointwise}
 use Rattle.event_value.specs.declared.kind.Kind.TheVariants as kind
-use Rattle.event_value.specs.declared.expr.Expr.{Expr}
+use Rattle.query_plan.specs.declared.expr.Expr.{Expr}
 use Rattle.query_tree.specs.declared.name.Path.{Path}
 use Rattle.query_tree.specs.declared.source.Over.{Over}
 use Rattle.query_tree.specs.declared.source.Stamp.{Stamp}

@@ -4,8 +4,9 @@ ghost use Rattle.std.specs.Prelude.{◌≡◌, IfOk, OnOk};
 ghost use Rattle.query_sources.specs.Conditions as spec;
 
 use crate::draft::Draft;
-use event_value::{Cond, Memory, Step};
+use event_value::Memory;
 use query_forms::{Checked, Rule, Sense, Valued, refuse};
+use query_plan::{Cond, Step};
 use query_readings::{Outcome, Scope, Side, take_side};
 use query_senses::read_expr;
 use query_tree::Expr;

@@ -3,8 +3,9 @@
 ghost use Rattle.std.specs.Prelude.{◌≡◌, ◌++◌, ◌∷◌, [], IfOk, OnOk};
 ghost use Rattle.query_sources.specs.Drafts as spec;
 
-use event_value::{Expr, Memory, Seq, Step};
+use event_value::{Memory, Seq};
 use query_forms::{Fault, Rule};
+use query_plan::{Expr, Step};
 
 /// What a mention of a stream says of the time of its records.
 #[derive(Drop)]

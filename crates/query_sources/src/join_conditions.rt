@@ -4,8 +4,9 @@ ghost use Rattle.std.specs.Prelude.{◌≡◌, IfOk};
 ghost use Rattle.query_sources.specs.Joins as spec;
 
 use crate::conditions::condition_of;
-use event_value::{Cond, Expr, Memory, Rel, Value};
+use event_value::{Memory, Value};
 use query_forms::Checked;
+use query_plan::{Cond, Expr, Rel};
 use query_readings::{Reading, Scope};
 use query_senses::{read_and_without, read_expr};
 use query_tree as tree;

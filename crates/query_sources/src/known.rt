@@ -6,8 +6,9 @@ ghost use Rattle.query_sources.specs.Known as spec;
 
 use crate::draft::number_of;
 use crate::names::is_named;
-use event_value::{Column, Copies, Kind, Memory, Seq, Step, Text};
-use input_book::{Reference, Stream};
+use event_value::{Column, Copies, Kind, Memory, Seq, Text};
+use input_types::{Reference, Stream};
+use query_plan::Step;
 use query_tree::Name;
 use std::alloc::Global;
 

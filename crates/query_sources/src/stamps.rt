@@ -4,8 +4,9 @@ ghost use Rattle.std.specs.Prelude.{◌≡◌, ◌++◌, IfOk, OnOk};
 ghost use Rattle.query_sources.specs.Stamps as spec;
 
 use crate::draft::{Draft, Mention, Stamping};
-use event_value::{Expr, Kind, Memory, Seq};
+use event_value::{Kind, Memory, Seq};
 use query_forms::{Checked, Fault, Rule, Sense, is_of, refuse};
+use query_plan::Expr;
 use query_readings::{Finding, Outcome, Scope, ScopeSource, finding_of, is_same_expr};
 use query_senses::read_expr;
 use query_tree::{Over, Path, Stamp};

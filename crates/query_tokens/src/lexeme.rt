@@ -53,7 +53,7 @@ impl<'a> Lexeme<'a> {
 }
 
 /// What the tokens so far say about the next one.
-#[derive(Clone, Copy, Debug, PartialEq, Eq)]
+#[derive(Clone, Copy, PartialEq, Eq)]
 pub enum Before {
     Other,
     /// The last token is the word System.

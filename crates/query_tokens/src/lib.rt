@@ -14,8 +14,6 @@ mod numbers;
 mod parse_err;
 mod step;
 mod symbol;
-#[cfg(test)]
-mod tests;
 mod texts;
 mod token;
 

@@ -2,7 +2,7 @@
 
 /// Why a text is no query. A place is a number of bytes from the text's start. `TooLong` is tested
 /// first, then the others in their order, `Expected` and `Deep` together by the least place.
-#[derive(Clone, Copy, Debug, PartialEq, Eq)]
+#[derive(Clone, Copy, PartialEq, Eq)]
 pub enum ParseErr {
     /// The text isn't UTF-8; the place is the length of its longest front that is.
     Utf8(u32),

@@ -12,7 +12,7 @@ use crate::texts::{next_sign, next_text};
 use crate::token::TokenKind;
 
 /// The next step through a text.
-#[derive(Clone, Copy, Debug, PartialEq, Eq)]
+#[derive(Clone, Copy, PartialEq, Eq)]
 pub enum Step {
     /// So many bytes separate tokens.
     Skip(usize),

@@ -6,7 +6,7 @@ ghost use Rattle.query_tokens.specs.Symbols.{symbol_of, is_symbol, fixed_text, f
 use crate::token::TokenKind;
 
 /// What a token is to the grammar: a keyword, a token of another form, or a sign.
-#[derive(Clone, Copy, Debug, PartialEq, Eq)]
+#[derive(Clone, Copy, PartialEq, Eq)]
 pub enum Symbol {
     /// The end of the text counts as one more token.
     EndOfText,

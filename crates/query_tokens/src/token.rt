@@ -3,7 +3,7 @@
 use event_value::{Copies, Memory};
 
 /// What kind of token it is.
-#[derive(Clone, Copy, Debug, PartialEq, Eq)]
+#[derive(Clone, Copy, PartialEq, Eq)]
 pub enum TokenKind {
     /// A letter or `_`, then letters, digits and `_`.
     Word,
@@ -18,7 +18,7 @@ pub enum TokenKind {
 }
 
 /// A token, by the places of its first byte and behind its last one.
-#[derive(Clone, Copy, Debug, PartialEq, Eq)]
+#[derive(Clone, Copy, PartialEq, Eq)]
 pub struct Token {
     pub kind: TokenKind,
     pub start: u32,

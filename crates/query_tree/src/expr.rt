@@ -5,7 +5,7 @@ use event_value::Text;
 use sqlite_items::{Boxed, Items};
 
 /// How two sums are compared; `!=` is `Ne`.
-#[derive(Clone, Copy, Debug, PartialEq, Eq)]
+#[derive(Clone, Copy, PartialEq, Eq)]
 pub enum Rel {
     Eq,
     Ne,
@@ -16,14 +16,14 @@ pub enum Rel {
 }
 
 /// The sign before a further part of a sum.
-#[derive(Clone, Copy, Debug, PartialEq, Eq)]
+#[derive(Clone, Copy, PartialEq, Eq)]
 pub enum SumSign {
     Plus,
     Minus,
 }
 
 /// The sign before a further part of a product.
-#[derive(Clone, Copy, Debug, PartialEq, Eq)]
+#[derive(Clone, Copy, PartialEq, Eq)]
 pub enum ProdSign {
     Star,
     Slash,
@@ -31,7 +31,7 @@ pub enum ProdSign {
 }
 
 /// CAST or TRY_CAST.
-#[derive(Clone, Copy, Debug, PartialEq, Eq)]
+#[derive(Clone, Copy, PartialEq, Eq)]
 pub enum CastWord {
     Cast,
     TryCast,

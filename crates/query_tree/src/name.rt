@@ -5,21 +5,21 @@ ghost use Rattle.std.specs.Prelude.{◌≡◌, IfOk};
 use event_value::{Copies, Memory, Text};
 
 /// A name without its brackets, and the place of its first byte.
-#[derive(Debug, Drop)]
+#[derive(Drop)]
 pub struct Name {
     pub place: u32,
     pub text: Text,
 }
 
 /// A whole number, or a decimal one in millionths.
-#[derive(Clone, Copy, Debug, PartialEq, Eq)]
+#[derive(Clone, Copy, PartialEq, Eq)]
 pub enum Number {
     Whole(i64),
     Decimal(i64),
 }
 
 /// `name ["." name]`, also where the grammar has `column`.
-#[derive(Debug, Drop)]
+#[derive(Drop)]
 pub struct Path {
     pub place: u32,
     pub first: Name,
@@ -27,7 +27,7 @@ pub struct Path {
 }
 
 /// `word ["(" word ")"]`
-#[derive(Debug, Drop)]
+#[derive(Drop)]
 pub struct TypeName {
     pub place: u32,
     pub word: Name,

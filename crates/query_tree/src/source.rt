@@ -48,7 +48,7 @@ pub struct Join {
 }
 
 /// `INNER | LEFT [OUTER]`; the flag says whether OUTER is written.
-#[derive(Clone, Copy, Debug, PartialEq, Eq)]
+#[derive(Clone, Copy, PartialEq, Eq)]
 pub enum Side {
     Inner(u32),
     Left(u32, bool),

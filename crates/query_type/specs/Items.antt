@@ -2,7 +2,7 @@
 use Rattle.std.specs.Prelude.{map, ℕ, ◌+◌, ◌-◌, Option, Some, None, Ok, Err, List, [], ◌∷◌, ◌++◌, length, slice_get, codes}
 use Rattle.std.specs.Fmt.{decimal}
 use Rattle.event_value.specs.declared.kind.Kind.{Kind}
-use Rattle.event_value.specs.declared.expr.Expr.TheVariants.{Col}
+use Rattle.query_plan.specs.declared.expr.Expr.TheVariants.{Col}
 use Rattle.query_tree.specs.declared.name.Name.{Name}
 use Rattle.query_tree.specs.declared.select.Item.{Item}
 use Rattle.query_tree.specs.declared.select.SelectItems.{SelectItems}

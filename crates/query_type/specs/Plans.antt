@@ -1,10 +1,10 @@
 -- The plan of a script, and all its faults: the plan is the answer where there is none, and else the least.
 use Rattle.std.specs.Prelude.{map, ℕ, ◌-◌, ◌==◌, Bool, true, false, ◌&&◌, ◌||◌, nat_le, if◌then◌else◌, Option, Some, None, Result, List, [], ◌∷◌, ◌++◌, length, slice_get}
 use Rattle.std.specs.Str.{bytes_eq}
-use Rattle.event_value.specs.declared.plan.Output.{Output}
-use Rattle.event_value.specs.declared.plan.Plan.{Plan}
-use Rattle.event_value.specs.declared.plan.StreamUse.{StreamUse}
-use Rattle.input_book.specs.declared.inputs.Inputs.{Inputs}
+use Rattle.query_plan.specs.declared.plan.Output.{Output}
+use Rattle.query_plan.specs.declared.plan.Plan.{Plan}
+use Rattle.query_plan.specs.declared.plan.StreamUse.{StreamUse}
+use Rattle.input_types.specs.declared.inputs.Inputs.{Inputs}
 use Rattle.query_tree.specs.declared.name.Name.{Name}
 use Rattle.query_tree.specs.declared.script.Def.{Def}
 use Rattle.query_tree.specs.declared.script.MoreStmt.{MoreStmt}

@@ -1,8 +1,8 @@
 -- One select: its steps in their order, its columns, the faults in it.
 use Rattle.std.specs.Prelude.{ℕ, ◌+◌, Bool, if◌then◌else◌, Option, Some, None, List, length, pos}
-use Rattle.event_value.specs.declared.plan.Aggregate.{Aggregate}
-use Rattle.event_value.specs.declared.plan.Step.{Step}
-use Rattle.event_value.specs.declared.plan.Step.TheVariants as step
+use Rattle.event_value.specs.declared.aggregate.Aggregate.{Aggregate}
+use Rattle.query_plan.specs.declared.plan.Step.{Step}
+use Rattle.query_plan.specs.declared.plan.Step.TheVariants as step
 use Rattle.query_tree.specs.declared.expr.Expr.{Expr}
 use Rattle.query_tree.specs.declared.select.GroupBy.{GroupBy}
 use Rattle.query_tree.specs.declared.select.Having.{Having}

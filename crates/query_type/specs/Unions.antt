@@ -1,7 +1,7 @@
 -- UNION: selects of equal numbers of columns of equal kinds, joined from the left; names are the first's.
 use Rattle.std.specs.Prelude.{map, ℕ, Bool, true, false, if◌then◌else◌, Option, Some, None, List, [], ◌∷◌}
 use Rattle.event_value.specs.declared.kind.Kind.{Kind}
-use Rattle.event_value.specs.declared.plan.Step.TheVariants as step
+use Rattle.query_plan.specs.declared.plan.Step.TheVariants as step
 use Rattle.query_tree.specs.declared.script.Union.{Union}
 use Rattle.query_tree.specs.declared.select.Select.{Select}
 use Rattle.query_forms.specs.declared.fault.Rule.TheVariants as rule

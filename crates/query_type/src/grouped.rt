@@ -4,7 +4,8 @@ ghost use Rattle.std.specs.Prelude.{◌≡◌, IfOk, OnOk, pos};
 ghost use Rattle.query_windows.specs.Groups.{first_window};
 ghost use Rattle.query_type.specs.Selects as spec;
 
-use event_value::{Aggregate, Memory, Seq, Step};
+use event_value::{Aggregate, Memory, Seq};
+use query_plan::Step;
 use query_readings::{AggregateCall, GroupKey, Scope};
 use query_sources::{Draft, number_of};
 use query_tree::{GroupBy, Having, SelectItems};

@@ -3,13 +3,15 @@
 ghost use Rattle.std.specs.Prelude.{◌≡◌, ◌++◌, ◌+◌, IfOk, OnOk, length};
 ghost use Rattle.query_type.specs.Items as spec;
 
-use event_value::{Copies, Expr, Memory, Seq, Text, push_number};
+use event_value::{Copies, Memory, Seq, Text};
 use query_forms::{Checked, Fault, Rule, Valued, push_faults};
+use query_plan::Expr;
 use query_readings::{Face, Scope, ScopeColumn, Side, take_side};
 use query_senses::read_expr;
 use query_sources::{ResultColumn, value_of};
 use query_tree::{Item, Name, SelectItems};
 use std::alloc::Global;
+use value_text::push_number;
 
 /// The items so far: the columns that they give, their expressions, the faults in them.
 #[derive(Drop)]

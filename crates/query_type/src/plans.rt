@@ -9,9 +9,10 @@ use crate::selects::read_select;
 use crate::type_err::{TypeErr, err_of_fault};
 use crate::unions::{join_selects, read_union};
 use crate::uses::uses_of;
-use event_value::{Copies, Memory, Output, Plan, Seq, Text};
-use input_book::Inputs;
+use event_value::{Copies, Memory, Seq, Text};
+use input_types::Inputs;
 use query_forms::{Fault, Rule, least, push_faults};
+use query_plan::{Output, Plan};
 use query_sources::{
     Draft, KnownSource, Origin, faults_of_mentions, names_of_script, references_of, streams_of,
 };

@@ -5,8 +5,9 @@ ghost use Rattle.query_type.specs.Selects as spec;
 
 use crate::grouped::open_groups;
 use crate::items::{Picked, column_names, read_items};
-use event_value::{Memory, Seq, Step};
+use event_value::{Memory, Seq};
 use query_forms::Rule;
+use query_plan::Step;
 use query_readings::{Scope, Side};
 use query_sources::{
     Draft, KnownSource, ResultColumn, known_named, mention_tail, note_repeats, read_filter,

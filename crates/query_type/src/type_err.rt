@@ -7,7 +7,7 @@ use event_value::Memory;
 use query_forms::{Fault, Rule};
 
 /// Why a script has no plan, each but the last with the place of the part that breaks the rule.
-#[derive(Clone, Copy, Debug, PartialEq, Eq)]
+#[derive(Clone, Copy, PartialEq, Eq)]
 pub enum TypeErr {
     /// No source has this name.
     UnknownSource(u32),

@@ -4,8 +4,9 @@ ghost use Rattle.std.specs.Prelude.{◌≡◌, IfOk, OnOk};
 ghost use Rattle.query_type.specs.Unions as spec;
 
 use crate::selects::read_select;
-use event_value::{Copies, Kind, Memory, Seq, Step};
+use event_value::{Copies, Kind, Memory, Seq};
 use query_forms::{Rule, is_same_kind};
+use query_plan::Step;
 use query_sources::{Draft, KnownSource, ResultColumn};
 use query_tree::{Select, Union};
 use std::alloc::Global;

@@ -3,7 +3,8 @@
 ghost use Rattle.std.specs.Prelude.{◌≡◌, IfOk};
 ghost use Rattle.query_type.specs.Plans as spec;
 
-use event_value::{Copies, Memory, Seq, StreamUse};
+use event_value::{Copies, Memory, Seq};
+use query_plan::StreamUse;
 use query_sources::{Mention, Stamping};
 use std::alloc::Global;
 

@@ -1,9 +1,9 @@
 -- The aggregate calls of a select in order of place: their columns over the groups, and what they are computed of.
 use Rattle.std.specs.Prelude.{map, ℕ, ◌+◌, Option, Some, None, List, [], ◌∷◌, ◌++◌, length}
-use Rattle.event_value.specs.declared.expr.Expr.{Expr}
-use Rattle.event_value.specs.declared.expr.Expr.TheVariants as expr
-use Rattle.event_value.specs.declared.plan.AggKind.{AggKind}
-use Rattle.event_value.specs.declared.plan.Aggregate.{Aggregate}
+use Rattle.query_plan.specs.declared.expr.Expr.{Expr}
+use Rattle.query_plan.specs.declared.expr.Expr.TheVariants as expr
+use Rattle.event_value.specs.declared.aggregate.AggKind.{AggKind}
+use Rattle.event_value.specs.declared.aggregate.Aggregate.{Aggregate}
 use Rattle.query_tree.specs.declared.expr.Expr as tree
 use Rattle.query_tree.specs.declared.select.Having.{Having}
 use Rattle.query_tree.specs.declared.select.Item.{Item}

@@ -3,7 +3,8 @@
 ghost use Rattle.std.specs.Prelude.{◌≡◌, ◌++◌, IfOk, OnOk};
 ghost use Rattle.query_windows.specs.Aggregates as spec;
 
-use event_value::{Aggregate, Expr, Memory, Seq};
+use event_value::{Aggregate, Memory, Seq};
+use query_plan::Expr;
 use query_readings::{AggregateCall, AggregateColumn, GroupKey, Scope, push_calls};
 use query_senses::read_expr;
 use query_sources::number_of;

@@ -4,7 +4,7 @@ use Rattle.std.specs.List.{fold}
 use Rattle.std.specs.List.{AllByRecursion as Each}
 use Rattle.std.specs.Prelude.{◌+ℤ◌, Some, None}
 use Rattle.std.proofs.lemmas.Int.{ints}
-use Rattle.event_value.specs.Numbers.{is_number}
+use Rattle.value_text.specs.Numbers.{is_number}
 use Rattle.row_groups.specs.Aggregates.{exact_sum_from, is_wide}
 use Rattle.row_groups.specs.Laws.{AreAddedExactly}
 

@@ -4,7 +4,7 @@ use Rattle.std.proofs.Common.{pos}
 use Rattle.std.specs.Prelude.{nat_le}
 use Rattle.std.proofs.Math.Nat.{add-mul-div_left, mod-add-div}
 use Rattle.std.proofs.lemmas.Bool.Decides.{nat_tests}
-use Rattle.event_value.specs.Numbers.{is_number}
+use Rattle.value_text.specs.Numbers.{is_number}
 use Rattle.event_value.specs.declared.value.Value.TheVariants.{Null, Big}
 use Rattle.row_groups.specs.Aggregates.{count_value, most_numbers}
 use Rattle.row_groups.specs.Tallies.{one_more}

@@ -4,9 +4,9 @@ use Rattle.std.specs.BTreeSet.{insert_key}
 use Rattle.std.specs.List.{fold}
 use Rattle.std.specs.Prelude.{Option, Some, None}
 use Rattle.event_value.specs.Order.{value_order}
-use Rattle.event_value.specs.declared.plan.AggKind.{AggKind}
-use Rattle.event_value.specs.declared.plan.AggKind.TheVariants as kinds
-use Rattle.event_value.specs.declared.plan.Aggregate.{Aggregate}
+use Rattle.event_value.specs.declared.aggregate.AggKind.{AggKind}
+use Rattle.event_value.specs.declared.aggregate.AggKind.TheVariants as kinds
+use Rattle.event_value.specs.declared.aggregate.Aggregate.{Aggregate}
 use Rattle.event_value.specs.declared.record.Stamped.{Stamped}
 use Rattle.event_value.specs.declared.value.Value.{Value}
 use Rattle.row_order.proofs.ListLemmas.{filter-passes}

@@ -1,13 +1,13 @@
 -- The aggregates of the rows of a group.
 use Rattle.std.specs.Prelude.{ℕ, ◌-◌, ◌^◌, Bool, true, false, ◌&&◌, ◌==◌, nat_le, if◌then◌else◌, ℤ, pos, negsuc, ◌+ℤ◌, ◌*ℤ◌, int_div, int_le, List, [], ◌∷◌, filter, map, length, Option, Some, None}
 use Rattle.std.specs.List.{list_all}
-use Rattle.event_value.specs.Numbers.{whole_value, fixed_value}
+use Rattle.value_text.specs.Numbers.{whole_value, fixed_value}
 use Rattle.event_value.specs.Order.{value_order}
-use Rattle.event_value.specs.Printed.{million}
-use Rattle.event_value.specs.declared.plan.AggKind.{AggKind}
-use Rattle.event_value.specs.declared.plan.AggKind.TheVariants as kinds
-use Rattle.event_value.specs.declared.plan.AggKind.TheVariants.{Count, CountDistinct, Avg, Min, Max}
-use Rattle.event_value.specs.declared.plan.Aggregate.{Aggregate}
+use Rattle.value_text.specs.Printed.{million}
+use Rattle.event_value.specs.declared.aggregate.AggKind.{AggKind}
+use Rattle.event_value.specs.declared.aggregate.AggKind.TheVariants as kinds
+use Rattle.event_value.specs.declared.aggregate.AggKind.TheVariants.{Count, CountDistinct, Avg, Min, Max}
+use Rattle.event_value.specs.declared.aggregate.Aggregate.{Aggregate}
 use Rattle.event_value.specs.declared.record.Stamped.{Stamped}
 use Rattle.event_value.specs.declared.value.Value.{Value}
 use Rattle.event_value.specs.declared.value.Value.TheVariants.{Null, Big, Fixed}

@@ -1,7 +1,7 @@
 -- What holds of sums.
 use Rattle.std.specs.Prelude.{◌≡◌, ◌+ℤ◌, ◌<◌, ◌^◌, true, ℤ, pos, List, length, Some}
 use Rattle.std.specs.List.{AllByRecursion, fold}
-use Rattle.event_value.specs.Numbers.{is_number}
+use Rattle.value_text.specs.Numbers.{is_number}
 use Rattle.row_groups.specs.Aggregates.{exact_sum_from}
 
 -- fewer than 2^63 numbers of 64 bits have their sum, whatever the sums on the way

@@ -15,8 +15,6 @@ mod running;
 mod sum;
 mod tallies;
 mod tally;
-#[cfg(test)]
-mod tests;
 
 pub use different::Different;
 pub use keys::{key_of, order_keys};

@@ -5,9 +5,10 @@ ghost use Rattle.row_groups.specs.Aggregates as spec;
 ghost use Rattle.row_groups.specs.Tallies as tallies;
 
 use crate::{Different, Sum};
-use event_value::{AggKind, Copies, Memory, Value, order, whole_value};
+use event_value::{AggKind, Copies, Memory, Value, order};
 use std::alloc::Global;
 use std::cmp::Ordering;
+use value_text::whole_value;
 
 /// An aggregate of the values so far, Null left out.
 #[derive(Drop)]

@@ -1,13 +1,14 @@
 //! `Sum`, the running sum of whole or of decimal numbers.
 
 ghost use Rattle.std.specs.Prelude.{◌≡◌, ◌*◌, ◌/◌, ◌<◌, ◌≤◌, pos, ◌*ℤ◌, unsigned_abs};
-ghost use Rattle.event_value.specs.Numbers.{greatest_size, signed};
-ghost use Rattle.event_value.specs.Numbers as numbers;
-ghost use Rattle.event_value.specs.Printed.{million};
+ghost use Rattle.value_text.specs.Numbers.{greatest_size, signed};
+ghost use Rattle.value_text.specs.Numbers as numbers;
+ghost use Rattle.value_text.specs.Printed.{million};
 ghost use Rattle.row_groups.specs.Aggregates as spec;
 ghost use Rattle.row_groups.specs.Tallies as tallies;
 
-use event_value::{Value, fixed_value, whole_value};
+use event_value::Value;
+use value_text::{fixed_value, whole_value};
 
 // How many millionths make one.
 const MILLION: u128 = 1_000_000;
@@ -19,7 +20,7 @@ const NO_NUMBERS: Total = Total { count: 0, sum: 0 };
 const GREATEST_SIZE: u128 = 9_223_372_036_854_775_808;
 
 /// How many numbers there are, and what they come to.
-#[derive(Clone, Copy, Debug, PartialEq, Eq)]
+#[derive(Clone, Copy, PartialEq, Eq)]
 pub struct Total {
     /// How many.
     pub count: u64,
@@ -28,7 +29,7 @@ pub struct Total {
 }
 
 /// The running sum of the values of a column.
-#[derive(Clone, Copy, Debug, PartialEq, Eq)]
+#[derive(Clone, Copy, PartialEq, Eq)]
 pub enum Sum {
     /// There are no values.
     Empty,

@@ -1,7 +1,7 @@
 //! `Tallies`, the aggregates of the rows of a group so far.
 
 ghost use Rattle.std.specs.Prelude.{◌≡◌, [], ◌++◌, List, IfOk, OnOk};
-ghost use Rattle.event_value.specs.declared.plan.Aggregate.{Aggregate};
+ghost use Rattle.event_value.specs.declared.aggregate.Aggregate.{Aggregate};
 ghost use Rattle.event_value.specs.declared.record.Stamped.{Stamped};
 ghost use Rattle.row_groups.specs.Aggregates.{aggregate_values};
 ghost use Rattle.row_groups.specs.Tallies as spec;

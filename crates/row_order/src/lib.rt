@@ -8,8 +8,6 @@
 
 mod laws;
 mod ordering;
-#[cfg(test)]
-mod tests;
 mod timed;
 
 pub use laws::{order_is_stable, stretches_join};

@@ -1,6 +1,6 @@
 -- Which rows match by a condition.
 use Rattle.std.specs.Prelude.{ℕ, Bool, List, ◌++◌}
-use Rattle.event_value.specs.declared.expr.Cond.{Cond}
+use Rattle.query_plan.specs.declared.expr.Cond.{Cond}
 use Rattle.event_value.specs.declared.value.Value.{Value}
 use Rattle.expr_eval.specs.Truths.{is_true}
 use Rattle.expr_eval.specs.Values.{truth_of}

@@ -5,8 +5,9 @@ ghost use Rattle.stream_joins.specs.JoinCond.{passes_over};
 
 use crate::Matches;
 use crate::pairs::values_of_both;
-use event_value::{Cond, Copies, Memory, Value};
+use event_value::{Copies, Memory, Value};
 use expr_eval::holds;
+use query_plan::Cond;
 use std::alloc::Global;
 use std::marker::Model;
 use tick_time::Moment;
@@ -20,8 +21,8 @@ pub struct JoinCond {
 }
 
 impl Model for JoinCond {
-    ghost use Rattle.event_value.specs.contracts.expr.Cond as cond_type;
-    ghost use Rattle.event_value.specs.declared.expr.Cond.{Cond};
+    ghost use Rattle.query_plan.specs.contracts.expr.Cond as cond_type;
+    ghost use Rattle.query_plan.specs.declared.expr.Cond.{Cond};
     ghost use Rattle.std.specs.Coded.{codes};
 
     ghost Value = { Cond };

@@ -5,23 +5,18 @@
 //! What matters: `StreamOp::advance`, the laws of specs/Laws.antt, and `run_pieces`, which says for
 //! every operator that every way to cut its input into pieces gives the rows of its meaning.
 //! The meaning of `Filter`, `Project` and `Union`: specs/Operators.antt.
-//! Windows and joins are operators of other crates; `Held` makes one of a meaning that is computed
-//! from whole lists.
+//! Windows and joins are operators of other crates.
 #![tactic(auto)]
 
 mod copied;
 mod filter;
-mod held;
 mod project;
 mod schedule;
 mod stream;
-#[cfg(test)]
-mod tests;
 mod union;
 
 pub use copied::push_rows;
 pub use filter::{Filter, RowTest};
-pub use held::{Held, Whole};
 pub use project::{Project, RowBuild};
 pub use schedule::{Piece, run_pieces};
 pub use stream::StreamOp;

@@ -9,7 +9,7 @@ use std::alloc::Global;
 use tick_time::Moment;
 
 /// The next rows of both inputs, and the moment below which these are then complete.
-#[derive(Debug, Drop)]
+#[derive(Drop)]
 pub struct Piece {
     /// The next left rows.
     pub left: Seq<Stamped>,

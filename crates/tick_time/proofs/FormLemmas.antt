@@ -9,22 +9,25 @@ use Rattle.tick_time.specs.Ticks.{day_ticks, second_ticks}
 use Rattle.tick_time.specs.declared.civil_date.CivilDate.{CivilDate}
 use Rattle.tick_time.specs.Calendar.{is_date, day_number, date_number}
 use Rattle.tick_time.specs.MomentText.{date_text}
-use Rattle.tick_time.specs.MomentReading.{is_digit, is_separator, date_at_front, clock_at_front, fraction_ticks, fraction_at_front, seconds_at_front, offset_of, time_of, moment_of}
+use Rattle.tick_time.specs.MomentReading.{is_digit, is_separator, date_at_front, clock_at_front, fraction_ticks, fraction_at_front, second_at_front, seconds_at_front, offset_of, time_of, moment_of}
 use Rattle.tick_time.specs.MomentForms.{Seconds, NoSeconds, WholeSeconds, SplitSeconds, Zone, NoZone, UpperZ, LowerZ, Ahead, Behind, Time, NoTime, TimeOfDay, Form, IsSeconds, IsZone, IsTime, IsForm, seconds_text, clock_text, zone_text, form_time_text, form_text, seconds_ticks, clock_ticks, offset_ticks, time_ticks, form_ticks}
 use Rattle.tick_time.proofs.CalendarLemmas.{IsDate-is_date, days_in_month_last}
 use Rattle.tick_time.proofs.DigitLemmas.{is_pair_below-two_digits, is_pair_below-four_digits, is_pair_below-last_digits, pair_value-two_digits, pair_value-four_digits}
 
 date_read : (y m d : ℕ) (rest : List ℕ) → y < 10_000 → m < 100 → d < 100 → date_at_front (date_text (record { year = y; month = m; day = d }) ++ rest) ≡ Some (record { year = y; month = m; day = d }, rest)
+unfolding date_at_front
 date_read y m d rest year month day =
     rw (is_pair_below-four_digits y, is_pair_below-last_digits y, is_pair_below-two_digits 100 m month month, is_pair_below-two_digits 100 d day day, pair_value-four_digits y year, pair_value-two_digits m month, pair_value-two_digits d day) refl
 
 clock_read : (s h m : ℕ) (rest : List ℕ) → is_separator s ≡ true → h < 24 → m < 60 → clock_at_front (s ∷ (clock_text h m ++ rest)) ≡ Some (clock_ticks h m, rest)
+unfolding clock_at_front
 clock_read s h m rest separator hour minute =
     let small : h < 100 = omega arith in
     let minute_small : m < 100 = omega arith in
     rw (separator, is_pair_below-two_digits 24 h hour small, is_pair_below-two_digits 60 m minute minute_small, pair_value-two_digits h small, pair_value-two_digits m minute_small) refl
 
 zone_read : (z : Zone) → IsZone z → offset_of (zone_text z) ≡ Some (offset_ticks z)
+unfolding offset_of
 zone_read NoZone h = refl
 zone_read UpperZ h = refl
 zone_read LowerZ h = refl
@@ -39,6 +42,7 @@ zone_read (Behind hour minute) h =
 
 -- a zone begins with no colon, point or digit
 no_seconds_before : (z : Zone) → seconds_at_front (zone_text z) ≡ Some (0, zone_text z)
+unfolding seconds_at_front
 no_seconds_before NoZone = refl
 no_seconds_before UpperZ = refl
 no_seconds_before LowerZ = refl
@@ -46,6 +50,7 @@ no_seconds_before (Ahead hour minute) = refl
 no_seconds_before (Behind hour minute) = refl
 
 no_fraction_before : (z : Zone) → fraction_at_front (zone_text z) ≡ Some (0, zone_text z)
+unfolding fraction_at_front
 no_fraction_before NoZone = refl
 no_fraction_before UpperZ = refl
 no_fraction_before LowerZ = refl
@@ -66,10 +71,12 @@ digits_before (d ∷ ds) rest h e =
     rw both.0 (omega (arith, digits_before ds rest both.1 e))
 
 fraction_read : (digits : List ℕ) (z : Zone) → list_all is_digit digits ≡ true → 1 ≤ length digits → length digits ≤ 9 → fraction_at_front (code "." ∷ (digits ++ zone_text z)) ≡ Some (fraction_ticks digits (second_ticks / 10), zone_text z)
+unfolding fraction_at_front
 fraction_read digits z h from to =
     rw (digits_before digits (zone_text z) h (no_digit_before z), take-append_seam digits (zone_text z), drop-append_seam digits (zone_text z), le-leb _ _ from, le-leb _ _ to) refl
 
 seconds_read : (s : Seconds) (z : Zone) → IsSeconds s → seconds_at_front (seconds_text s ++ zone_text z) ≡ Some (seconds_ticks s, zone_text z)
+unfolding seconds_at_front second_at_front
 seconds_read NoSeconds z h = no_seconds_before z
 seconds_read (WholeSeconds second) z h =
     let small : second < 100 = omega (arith, h) in
@@ -79,9 +86,11 @@ seconds_read (SplitSeconds second digits) z h =
     rw (is_pair_below-two_digits 60 second h.0 small, fraction_read digits z h.1 h.2 h.3, pair_value-two_digits second small) refl
 
 time_of_parts : (c : ℕ) (cs after behind : List ℕ) (clock seconds : ℕ) (offset : ℤ) → clock_at_front (c ∷ cs) ≡ Some (clock, after) → seconds_at_front after ≡ Some (seconds, behind) → offset_of behind ≡ Some offset → time_of (c ∷ cs) ≡ Some (pos (clock + seconds) -ℤ offset)
+unfolding time_of
 time_of_parts c cs after behind clock seconds offset e f g = rw (e, f, g) refl
 
 time_read : (t : Time) → IsTime t → time_of (form_time_text t) ≡ Some (time_ticks t)
+unfolding time_of
 time_read NoTime h = refl
 time_read (TimeOfDay separator hour minute seconds zone) h =
     time_of_parts separator (clock_text hour minute ++ (seconds_text seconds ++ zone_text zone)) _ _ _ _ _ (clock_read separator hour minute (seconds_text seconds ++ zone_text zone) h.0 h.1 h.2) (seconds_read seconds zone h.3) (zone_read zone h.4)

@@ -21,6 +21,7 @@ record BeginsWithDate (text : List ℕ) (d : CivilDate) (rest : List ℕ) : Type
   text_is : text ≡ date_text d ++ rest
 
 date_front : (text rest : List ℕ) (d : CivilDate) → date_at_front text ≡ Some (d, rest) → BeginsWithDate text d rest
+unfolding date_at_front
 date_front (a ∷ b ∷ c ∷ d ∷ h ∷ e ∷ f ∷ i ∷ g ∷ j ∷ t) rest date p =
     let found = cond_some _ _ _ p in
     let days = and_parts _ _ found.0 in
@@ -48,6 +49,7 @@ record BeginsWithClock (text rest : List ℕ) : Type 0 where
   text_is : text ≡ separator ∷ (clock_text hour minute ++ rest)
 
 clock_front : (text rest : List ℕ) (n : ℕ) → clock_at_front text ≡ Some (n, rest) → BeginsWithClock text rest
+unfolding clock_at_front
 clock_front (s ∷ a ∷ b ∷ c ∷ d ∷ e ∷ t) rest n p =
     let found = cond_some _ _ _ p in
     let minutes = and_parts _ _ found.0 in
@@ -74,6 +76,7 @@ data BeginsWithFraction (text rest : List ℕ) : Type 0 where
   Digits : (digits : List ℕ) → list_all is_digit digits ≡ true → 1 ≤ length digits → length digits ≤ 9 → text ≡ code "." ∷ (digits ++ rest) → BeginsWithFraction text rest
 
 fraction_behind : (c : ℕ) (cs rest : List ℕ) (n : ℕ) → nat_eq c (code ".") ≡ true → fraction_at_front (c ∷ cs) ≡ Some (n, rest) → BeginsWithFraction (c ∷ cs) rest
+unfolding fraction_at_front
 fraction_behind c cs rest n e p =
     let found = cond_some _ _ _ (rw e at p) in
     let lengths = and_parts _ _ found.0 in
@@ -83,6 +86,7 @@ fraction_behind c cs rest n e p =
     subst P found.1 (Digits digits (list_all-from_AllPass is_digit digits (front_passes cs)) (leb-true 1 (length digits) lengths.0) (leb-true (length digits) 9 lengths.1) (ap (λ b. b ∷ cs) (eqb-true c (code ".") e) ∙ ap (λ t. code "." ∷ t) (sym whole)))
 
 fraction_front : (text rest : List ℕ) (n : ℕ) → fraction_at_front text ≡ Some (n, rest) → BeginsWithFraction text rest
+unfolding fraction_at_front
 fraction_front [] rest n p = Nothing (ap (λ (x : ℕ × List ℕ). x.1) (same_Some _ _ p))
 fraction_front (c ∷ cs) rest n p =
     elim (cases_Bool (nat_eq c (code "."))) [
@@ -105,12 +109,14 @@ seconds_with a b t rest pair (Digits digits all from to e) = record {
 }
 
 second_parts : (a b : ℕ) (t rest : List ℕ) (n : ℕ) (o : Option (ℕ × List ℕ)) → IsPair 60 a b → fraction_at_front t ≡ o → option_map {U = ℕ × List ℕ} (λ (f : ℕ × List ℕ). (pair_value a b * second_ticks + f.0, f.1)) o ≡ Some (n, rest) → BeginsWithSeconds (code ":" ∷ a ∷ b ∷ t) rest
+unfolding fraction_at_front
 second_parts a b t rest n None pair e p = absurd (none-some _ p)
 second_parts a b t rest n (Some f) pair e p =
     let same = ap (λ (x : ℕ × List ℕ). x.1) (same_Some _ _ p) in
     seconds_with a b t rest pair (subst (λ r. BeginsWithFraction t r) same (fraction_front t f.1 f.0 e))
 
 second_front : (text rest : List ℕ) (n : ℕ) → second_at_front text ≡ Some (n, rest) → BeginsWithSeconds (code ":" ∷ text) rest
+unfolding second_at_front
 second_front (a ∷ b ∷ t) rest n p =
     elim (cases_Bool (is_pair_below 60 a b)) [
       | inl e ↦ second_parts a b t rest n (fraction_at_front t) (IsPair-is_pair_below 60 a b e) refl (rw e at p)
@@ -119,6 +125,7 @@ second_front (a ∷ b ∷ t) rest n p =
 second_front _ rest n p = absurd (none-some _ p)
 
 seconds_front : (text rest : List ℕ) (n : ℕ) → seconds_at_front text ≡ Some (n, rest) → BeginsWithSeconds text rest
+unfolding seconds_at_front
 seconds_front [] rest n p = record { seconds = NoSeconds; proper = tt; text_is = ap (λ (x : ℕ × List ℕ). x.1) (same_Some _ _ p) }
 seconds_front (c ∷ cs) rest n p =
     elim (cases_Bool (nat_eq c (code ":"))) [
@@ -145,6 +152,7 @@ offset_zone s a b c d e (inr minus) hour colon minute =
     record { zone = Behind (pair_value a b) (pair_value d e); proper = (hour.below, minute.below); text_is = cc }
 
 zone_whole : (text : List ℕ) (offset : ℤ) → offset_of text ≡ Some offset → IsZoneText text
+unfolding offset_of
 zone_whole [] offset p = record { zone = NoZone; proper = tt; text_is = refl }
 zone_whole (z ∷ []) offset p = letter_zone z (or_cases _ _ (cond_some _ _ _ p).0)
 zone_whole (s ∷ a ∷ b ∷ c ∷ d ∷ e ∷ []) offset p =
@@ -171,6 +179,7 @@ time_of_fronts text after behind clock seconds zone = record {
 }
 
 time_whole : (text : List ℕ) (time : ℤ) → time_of text ≡ Some time → IsTimeText text
+unfolding time_of
 time_whole [] time p = record { time = NoTime; proper = tt; text_is = refl }
 time_whole (c ∷ cs) time p =
     option_and_then_some _ (clock_at_front (c ∷ cs)) time p (λ m e q.

@@ -23,7 +23,7 @@ abbrev pub is_pair_below : ℕ → ℕ → ℕ → Bool
 is_pair_below n a b = is_digit a && is_digit b && nat_lt (pair_value a b) n
 
 -- YYYY-MM-DD: the date that it names, and what stands behind it
-abbrev pub date_at_front : List ℕ → Option (CivilDate × List ℕ)
+unfoldable pub date_at_front : List ℕ → Option (CivilDate × List ℕ)
 date_at_front (a ∷ b ∷ c ∷ d ∷ p ∷ e ∷ f ∷ q ∷ g ∷ h ∷ rest) =
     let date : CivilDate = record {
       year = pair_value a b * 100 + pair_value c d;
@@ -40,7 +40,7 @@ abbrev pub is_separator : ℕ → Bool
 is_separator b = (b == code "T") || (b == code "t") || (b == code " ")
 
 -- a separator and HH:MM: the ticks since midnight, and what stands behind it
-abbrev pub clock_at_front : List ℕ → Option (ℕ × List ℕ)
+unfoldable pub clock_at_front : List ℕ → Option (ℕ × List ℕ)
 clock_at_front (s ∷ a ∷ b ∷ p ∷ c ∷ d ∷ rest) =
     if is_separator s && is_pair_below 24 a b && (p == code ":") && is_pair_below 60 c d
     then Some (pair_value a b * hour_ticks + pair_value c d * minute_ticks, rest)
@@ -53,7 +53,7 @@ fraction_ticks [] place = 0
 fraction_ticks (d ∷ ds) place = digit_value d * place + fraction_ticks ds (place / 10)
 
 -- a point with 1 to 9 digits, or nothing: its ticks, and what stands behind it
-abbrev pub fraction_at_front : List ℕ → Option (ℕ × List ℕ)
+unfoldable pub fraction_at_front : List ℕ → Option (ℕ × List ℕ)
 fraction_at_front [] = Some (0, [])
 fraction_at_front (c ∷ rest) =
     let digits = take_while is_digit rest in
@@ -63,7 +63,7 @@ fraction_at_front (c ∷ rest) =
     else Some (0, c ∷ rest)
 
 -- SS with its fraction: the ticks since the minute, and what stands behind it
-abbrev pub second_at_front : List ℕ → Option (ℕ × List ℕ)
+unfoldable pub second_at_front : List ℕ → Option (ℕ × List ℕ)
 second_at_front (a ∷ b ∷ rest) =
     if is_pair_below 60 a b
     then option_map (λ (f : ℕ × List ℕ). (pair_value a b * second_ticks + f.0, f.1))
@@ -72,12 +72,12 @@ second_at_front (a ∷ b ∷ rest) =
 second_at_front _ = None
 
 -- :SS with its fraction, or nothing
-abbrev pub seconds_at_front : List ℕ → Option (ℕ × List ℕ)
+unfoldable pub seconds_at_front : List ℕ → Option (ℕ × List ℕ)
 seconds_at_front [] = Some (0, [])
 seconds_at_front (c ∷ rest) = if c == code ":" then second_at_front rest else Some (0, c ∷ rest)
 
 -- the ticks that a zone is ahead: of nothing, Z, z, or a sign and HH:MM
-abbrev pub offset_of : List ℕ → Option ℤ
+unfoldable pub offset_of : List ℕ → Option ℤ
 offset_of [] = Some (pos 0)
 offset_of (z ∷ []) = if (z == code "Z") || (z == code "z") then Some (pos 0) else None
 offset_of (s ∷ a ∷ b ∷ p ∷ c ∷ d ∷ []) =
@@ -89,7 +89,7 @@ offset_of (s ∷ a ∷ b ∷ p ∷ c ∷ d ∷ []) =
 offset_of _ = None
 
 -- the ticks since midnight in UTC that stand behind a date: an offset is subtracted
-abbrev pub time_of : List ℕ → Option ℤ
+unfoldable pub time_of : List ℕ → Option ℤ
 time_of [] = Some (pos 0)
 time_of (c ∷ cs) =
     option_and_then (λ (m : ℕ × List ℕ).

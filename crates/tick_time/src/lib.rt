@@ -19,8 +19,6 @@ mod part;
 mod read;
 mod read_time;
 mod span;
-#[cfg(test)]
-mod tests;
 mod ticks;
 mod unit;
 mod write;

@@ -12,7 +12,7 @@ pub const LIMIT: i64 = 325_036_800_000_000_000;
 pub const END: i64 = 2_534_023_008_000_000_000;
 
 /// A moment as a count of ticks of 100 ns since 1970-01-01T00:00:00Z, at most `END`.
-#[derive(Clone, Copy, Debug, PartialEq, Eq, PartialOrd, Ord)]
+#[derive(Clone, Copy, PartialEq, Eq, PartialOrd, Ord)]
 pub struct Moment {
     ticks: u64,
 }

@@ -1,7 +1,7 @@
 //! `Part`, a part of a date or of a time of day.
 
 /// A part of a date or of a time of day.
-#[derive(Clone, Copy, Debug, PartialEq, Eq)]
+#[derive(Clone, Copy, PartialEq, Eq)]
 pub enum Part {
     Year,
     Month,

@@ -11,6 +11,7 @@ use crate::read_time::read_time;
 use crate::ticks::DAY;
 
 // YYYY-MM-DD: the date that it names, and what stands behind it.
+#[tactic(auto, unfolding(crate::specs::MomentReading::date_at_front))]
 fn read_date(text: &[u8]) -> Option<(CivilDate, &[u8])>
     ensures value { MatchOption result (date_at_front text.now ≡ None)
         (λ r. date_at_front text.now ≡ Some (r.0, r.1.now)) }

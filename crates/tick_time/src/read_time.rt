@@ -15,6 +15,7 @@ fn is_separator(byte: u8) -> bool
 }
 
 // A separator and HH:MM: the ticks since midnight, and what stands behind it.
+#[tactic(auto, unfolding(crate::specs::MomentReading::clock_at_front))]
 fn read_clock(text: &[u8]) -> Option<(u64, &[u8])>
     ensures value { MatchOption result (clock_at_front text.now ≡ None)
         (λ r. clock_at_front text.now ≡ Some (r.0, r.1.now)) }
@@ -69,6 +70,7 @@ fn fraction_value(digits: &[u8]) -> u64
 }
 
 // A point with 1 to 9 digits, or nothing: its ticks, and what stands behind it.
+#[tactic(auto, unfolding(crate::specs::MomentReading::fraction_at_front))]
 fn read_fraction(text: &[u8]) -> Option<(u64, &[u8])>
     ensures value { MatchOption result (fraction_at_front text.now ≡ None)
         (λ r. fraction_at_front text.now ≡ Some (r.0, r.1.now)) }
@@ -88,6 +90,7 @@ fn read_fraction(text: &[u8]) -> Option<(u64, &[u8])>
 }
 
 // SS with its fraction: the ticks since the minute, and what stands behind it.
+#[tactic(auto, unfolding(crate::specs::MomentReading::second_at_front))]
 fn read_second(text: &[u8]) -> Option<(u64, &[u8])>
     ensures value { MatchOption result (second_at_front text.now ≡ None)
         (λ r. second_at_front text.now ≡ Some (r.0, r.1.now)) }
@@ -107,6 +110,7 @@ fn read_second(text: &[u8]) -> Option<(u64, &[u8])>
 }
 
 // :SS with its fraction, or nothing.
+#[tactic(auto, unfolding(crate::specs::MomentReading::seconds_at_front))]
 fn read_seconds(text: &[u8]) -> Option<(u64, &[u8])>
     ensures value { MatchOption result (seconds_at_front text.now ≡ None)
         (λ r. seconds_at_front text.now ≡ Some (r.0, r.1.now)) }
@@ -119,6 +123,7 @@ fn read_seconds(text: &[u8]) -> Option<(u64, &[u8])>
 }
 
 // The ticks that a zone is ahead: of nothing, Z, z, or a sign and HH:MM.
+#[tactic(auto, unfolding(crate::specs::MomentReading::offset_of))]
 fn read_zone(text: &[u8]) -> Option<i64>
     ensures value { result ≡ offset_of text.now }
     ensures bound { IfSome result (IsWithin day_ticks) }
@@ -149,6 +154,7 @@ fn read_zone(text: &[u8]) -> Option<i64>
 }
 
 /// The ticks since midnight in UTC that stand behind a date.
+#[tactic(auto, unfolding(crate::specs::MomentReading::time_of))]
 pub fn read_time(text: &[u8]) -> Option<i64>
     ensures value { result ≡ time_of text.now }
     ensures bound { IfSome result (IsWithin (2 * day_ticks + minute_ticks)) }

@@ -11,7 +11,7 @@ use std::marker::Model;
 const MAX_SPAN: u64 = 7 * DAY;
 
 /// A length in ticks, at most seven days forward or backward.
-#[derive(Clone, Copy, Debug, PartialEq, Eq)]
+#[derive(Clone, Copy, PartialEq, Eq)]
 pub struct Span {
     ticks: i64,
 }

@@ -6,7 +6,7 @@ ghost use Rattle.tick_time.specs.Ticks.{day_ticks};
 use crate::ticks::{DAY, HOUR, MICROSECOND, MILLISECOND, MINUTE, SECOND};
 
 /// A unit of lengths.
-#[derive(Clone, Copy, Debug, PartialEq, Eq)]
+#[derive(Clone, Copy, PartialEq, Eq)]
 pub enum Unit {
     Day,
     Hour,

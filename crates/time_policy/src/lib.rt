@@ -12,8 +12,6 @@ mod moments;
 mod policy_state;
 mod rules;
 mod substream_marks;
-#[cfg(test)]
-mod tests;
 mod verdict;
 
 pub use laws::{

@@ -14,7 +14,7 @@ use tick_time::Moment;
 pub const EARLY: u64 = 3_000_000_000;
 
 /// The policies of a lane. Lengths are in ticks.
-#[derive(Clone, Copy, Debug)]
+#[derive(Clone, Copy)]
 pub struct Rules {
     /// How far a stamp may be behind the arrival.
     pub late: u64,

@@ -4,7 +4,7 @@ use event_value::{Copies, Memory, Rule};
 use tick_time::Moment;
 
 /// What becomes of a record.
-#[derive(Clone, Copy, Debug, PartialEq, Eq)]
+#[derive(Clone, Copy, PartialEq, Eq)]
 pub enum Verdict {
     /// It is kept at this time.
     Kept(Moment),

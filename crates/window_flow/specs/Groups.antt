@@ -1,7 +1,7 @@
 -- Rows by their keys, and the rows within a reach, for private clauses.
 use Rattle.std.specs.Prelude.{ℕ, ◌-◌, Bool, ◌&&◌, nat_le, nat_lt, List, [], ◌∷◌, ◌++◌, map, Option, Some, None}
 use Rattle.std.specs.List.{AllByRecursion}
-use Rattle.event_value.specs.declared.plan.Aggregate.{Aggregate}
+use Rattle.event_value.specs.declared.aggregate.Aggregate.{Aggregate}
 use Rattle.event_value.specs.declared.record.Stamped.{Stamped}
 use Rattle.event_value.specs.declared.value.Value.{Value}
 use Rattle.row_groups.specs.Groups.{with_value}

@@ -16,8 +16,6 @@ mod parted;
 mod session;
 mod sliding;
 mod stretch;
-#[cfg(test)]
-mod tests;
 
 pub use laws::{
     latest_end_is_the_least_multiple, rows_are_by_time_and_part, sessions_are_longest_fronts,

@@ -20,7 +20,7 @@ use tick_time::{Moment, Span};
 pub type Session = Parted<SessionSpec>;
 
 /// What a session window is begun with. The timeout is to be at least 0, the maximum above 0.
-#[derive(Debug, Drop)]
+#[derive(Drop)]
 pub struct SessionSpec {
     /// How long after its last row a session ends.
     pub timeout: Span,

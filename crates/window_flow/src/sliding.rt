@@ -25,7 +25,7 @@ use tick_time::{Moment, Span};
 pub type Sliding = Parted<SlidingSpec>;
 
 /// What a sliding window is begun with. The size is to be above 0.
-#[derive(Debug, Drop)]
+#[derive(Drop)]
 pub struct SlidingSpec {
     /// The size of the window.
     pub size: Span,

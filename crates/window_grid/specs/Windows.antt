@@ -1,7 +1,7 @@
 -- The rows of windows that have ends of their own, a window apart for each key.
 use Rattle.std.specs.Prelude.{◌≡◌, ℕ, ◌+◌, ◌≤◌, Bool, true, ◌&&◌, ◌==◌, if◌then◌else◌, List, [], ◌∷◌, ◌++◌, filter, map}
 use Rattle.std.specs.List.{AllByRecursion, flat_map}
-use Rattle.event_value.specs.declared.plan.Aggregate.{Aggregate}
+use Rattle.event_value.specs.declared.aggregate.Aggregate.{Aggregate}
 use Rattle.event_value.specs.declared.record.Stamped.{Stamped}
 use Rattle.event_value.specs.declared.value.Value.{Value}
 use Rattle.row_groups.specs.Aggregates.{aggregate_values}

@@ -18,7 +18,7 @@ use tick_time::{Moment, Span};
 pub type Grid = Windowed<GridSpec>;
 
 /// What a grid is begun with. The size and the hop are to be above 0.
-#[derive(Debug, Drop)]
+#[derive(Drop)]
 pub struct GridSpec {
     /// The size of a window.
     pub size: Span,

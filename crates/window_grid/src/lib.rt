@@ -13,8 +13,6 @@ mod laws;
 mod pane;
 mod panes;
 mod snapshot;
-#[cfg(test)]
-mod tests;
 mod windowed;
 
 pub use grid::{Grid, GridSpec};

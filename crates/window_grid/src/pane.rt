@@ -4,7 +4,7 @@ use event_value::{Copies, Memory, Seq, Value};
 use tick_time::Moment;
 
 /// A window of one key. Windows are ordered by their ends, and then by their keys.
-#[derive(Debug, Drop, PartialEq, Eq, PartialOrd, Ord)]
+#[derive(Drop, PartialEq, Eq, PartialOrd, Ord)]
 pub struct Pane {
     /// Its end.
     pub end: Moment,

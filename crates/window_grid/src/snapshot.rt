@@ -13,7 +13,7 @@ use tick_time::Moment;
 pub type Snapshot = Windowed<SnapshotSpec>;
 
 /// What a snapshot is begun with.
-#[derive(Debug, Drop)]
+#[derive(Drop)]
 pub struct SnapshotSpec {
     /// How many of the first columns are the key.
     pub keys: u16,

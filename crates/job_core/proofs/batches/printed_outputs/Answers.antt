@@ -1,6 +1,6 @@
 use Rattle.std.proofs.Common.{◌≡◌, ◌++◌, ◌+◌, ◌∷◌, [], List, take, ap, sym, ◌∙◌, arith}
 use Rattle.std.proofs.lemmas.List.{take_more}
-use Rattle.event_value.specs.declared.plan.Output.{Output}
+use Rattle.query_plan.specs.declared.plan.Output.{Output}
 use Rattle.event_value.specs.declared.record.Stamped.{Stamped}
 use Rattle.job_core.specs.Batches as spec
 use Rattle.job_core.proofs.BatchLemmas.{many-taken, printed-enough, printed-push}

@@ -1,6 +1,6 @@
 use Rattle.std.proofs.Common.{◌≡◌, ◌++◌, ◌+◌, ◌∷◌, [], List, map, take, length, ap, sym, subst, ◌∙◌, arith}
 use Rattle.std.proofs.lemmas.List.{length-map, map-append, take_all, take_more}
-use Rattle.event_value.specs.declared.plan.StreamUse.{StreamUse}
+use Rattle.query_plan.specs.declared.plan.StreamUse.{StreamUse}
 use Rattle.job_core.specs.Fresh.{fresh_heard_of, fresh_lane, lane_counts, lane_kinds, partitions_of}
 use Rattle.job_core.specs.Lanes.{AreOfStreams, LanesStand, kind_of, name_of}
 use Rattle.job_core.specs.declared.lane.Lane.{Lane}

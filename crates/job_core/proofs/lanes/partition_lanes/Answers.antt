@@ -1,6 +1,6 @@
 use Rattle.std.proofs.Common.{◌≡◌, ◌++◌, ◌+◌, ◌∷◌, [], map, take, length, refl, ap, sym, subst, ◌∙◌, arith}
 use Rattle.std.proofs.lemmas.List.{length-append, length-map, length-take-le, map-append, map_more, take_all, take_more}
-use Rattle.input_book.specs.declared.inputs.Partition.{Partition}
+use Rattle.input_types.specs.declared.inputs.Partition.{Partition}
 use Rattle.job_core.specs.Fresh.{fresh_lane, kinds_from, lane_kind}
 use Rattle.job_core.specs.Lanes.{AreOfStream, LanesStand, kind_of, name_of}
 use Rattle.job_core.proofs.FreshLemmas.{AreOfStream-push, LanesStand-append, kinds_from-push}

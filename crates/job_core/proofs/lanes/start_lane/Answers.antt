@@ -1,7 +1,7 @@
 use Rattle.std.proofs.Common.{◌≡◌, ◌≤◌, ◌++◌, ◌∷◌, [], ℕ, Bool, List, length, take, ap, sym, ◌∙◌, arith}
 use Rattle.std.proofs.lemmas.List.{length-map, map-append, take_all, take_more}
-use Rattle.event_value.specs.declared.plan.StreamUse.{StreamUse}
-use Rattle.input_book.specs.declared.inputs.SegmentName.{SegmentName}
+use Rattle.query_plan.specs.declared.plan.StreamUse.{StreamUse}
+use Rattle.input_types.specs.declared.inputs.SegmentName.{SegmentName}
 use Rattle.job_core.specs.Fresh.{throughs_of}
 use Rattle.job_core.specs.Heard.{is_closed}
 use Rattle.job_core.specs.Lanes.{LaneKind}

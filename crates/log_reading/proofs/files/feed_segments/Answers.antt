@@ -1,7 +1,7 @@
 use Rattle.std.proofs.Common.{◌+◌, ◌∙◌, List, [], ◌∷◌, drop, subst, sym, ap, arith}
 use Rattle.std.proofs.lemmas.List.{at_drop_more, length-take-le}
 use Rattle.std.proofs.lemmas.Result.{err_from_is_err_and}
-use Rattle.input_book.specs.declared.inputs.SegmentName.{SegmentName}
+use Rattle.input_types.specs.declared.inputs.SegmentName.{SegmentName}
 use Rattle.log_reading.specs.Feeding.{FeedsFiles}
 use Rattle.log_reading.specs.Log.{files_of_segments}
 use Rattle.log_reading.proofs.AskingLemmas.{AsksAllBut-next, AsksAllBut-start, AsksOnErr-from_all_but}

@@ -1,6 +1,6 @@
 use Rattle.std.proofs.Common.{◌∙◌, List, subst, sym, ap}
 use Rattle.std.proofs.lemmas.Result.{IfOk-weaker}
-use Rattle.input_book.specs.declared.inputs.SegmentName.{SegmentName}
+use Rattle.input_types.specs.declared.inputs.SegmentName.{SegmentName}
 use Rattle.log_reading.specs.Feeding.{BeginsWith}
 use Rattle.log_reading.specs.Log.{files_of_segments}
 use Rattle.log_reading.specs.Places.{files_at}

@@ -1,6 +1,6 @@
 use Rattle.std.proofs.Common.{Option, subst, sym}
 use Rattle.std.proofs.lemmas.Result.{err_from_is_err_and}
-use Rattle.input_book.specs.declared.inputs.Reference.{Reference}
+use Rattle.input_types.specs.declared.inputs.Reference.{Reference}
 use Rattle.log_reading.specs.Asking.{Asks, AsksPrefixOf}
 use Rattle.log_reading.specs.References.{reference_files}
 use Rattle.log_reading.proofs.AskingLemmas.{Asks-none, AsksPrefixOf-all}

@@ -1,6 +1,6 @@
 use Rattle.std.proofs.Common.{◌∙◌, List, length, ap, subst, sym}
 use Rattle.std.proofs.lemmas.List.{length-map}
-use Rattle.input_book.specs.declared.inputs.SnapshotName.{SnapshotName}
+use Rattle.input_types.specs.declared.inputs.SnapshotName.{SnapshotName}
 use Rattle.stream_joins.specs.Snapshots.{Ascend}
 use Rattle.log_reading.specs.References.{effective_moments, rows_of_file}
 use Rattle.log_reading.proofs.ReferenceLemmas.{AreOf, Ascend-moments, snapshots-read}

@@ -2,7 +2,7 @@ use Rattle.std.proofs.Common.{◌+◌, ◌∙◌, ◌∷◌, [], List, drop, len
 use Rattle.std.proofs.lemmas.List.{at_drop_more, length_push}
 use Rattle.std.proofs.lemmas.Result.{err_from_is_err_and}
 use Rattle.event_value.specs.declared.record.Stamped.{Stamped}
-use Rattle.input_book.specs.declared.inputs.SnapshotName.{SnapshotName}
+use Rattle.input_types.specs.declared.inputs.SnapshotName.{SnapshotName}
 use Rattle.log_reading.specs.References.{files_of_snapshots, rows_of_file}
 use Rattle.log_reading.proofs.AskingLemmas.{AsksAllBut-next, AsksAllBut-start, AsksOnErr-from_all_but, AsksPrefixOf-from_all_but}
 use Rattle.log_reading.proofs.KnownLemmas.{take_at}

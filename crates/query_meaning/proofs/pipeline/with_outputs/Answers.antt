@@ -1,6 +1,6 @@
 use Rattle.std.proofs.Common.{◌≡◌, ◌++◌, ◌+◌, ◌∷◌, [], append_assoc, append-nil, drop, drop_of_length-le, length, map, ap, sym, ◌∙◌, arith}
 use Rattle.std.proofs.lemmas.List.{drop_more}
-use Rattle.event_value.specs.declared.plan.Output.{Output}
+use Rattle.query_plan.specs.declared.plan.Output.{Output}
 use Rattle.query_meaning.specs.Lists.{behind_each}
 use Rattle.query_meaning.specs.Meaning.{output_rows}
 use Rattle.query_meaning.proofs.PipelineLemmas.{as_many-first, behind_each-none}

@@ -1,6 +1,6 @@
 use Rattle.std.proofs.Common.{[], sym, subst}
 use Rattle.std.proofs.lemmas.Result.{IfOk-weaker}
-use Rattle.event_value.specs.declared.expr.Cond.{Cond}
+use Rattle.query_plan.specs.declared.expr.Cond.{Cond}
 use Rattle.stream_joins.specs.contracts.bound_join.BoundJoinStreamOp.TheImpl as bound_join
 use Rattle.stream_joins.specs.contracts.join_cond.JoinCond as join_cond
 use Rattle.stream_joins.specs.contracts.join_cond.JoinCondCopies.TheImpl as join_copies

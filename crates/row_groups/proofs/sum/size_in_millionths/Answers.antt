@@ -1,4 +1,4 @@
-use Rattle.event_value.specs.Printed.{million}
+use Rattle.value_text.specs.Printed.{million}
 use Rattle.row_groups.proofs.NumberLemmas.{quotient-split}
 use Rattle.row_groups.proofs.sum.size_in_millionths.Goals as goal
 

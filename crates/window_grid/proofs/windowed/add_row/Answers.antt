@@ -1,5 +1,5 @@
 use Rattle.std.proofs.Common.{List, ap, ◌∙◌}
-use Rattle.event_value.specs.declared.plan.Aggregate.{Aggregate}
+use Rattle.event_value.specs.declared.aggregate.Aggregate.{Aggregate}
 use Rattle.event_value.specs.declared.value.Value.{Value}
 use Rattle.row_groups.specs.Groups.{with_item}
 use Rattle.row_groups.specs.Tallies.{tallies_start, tallies_with}
