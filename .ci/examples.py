@@ -8,7 +8,8 @@ import re
 import sys
 
 TOP = pathlib.Path(__file__).resolve().parent.parent
-TESTS = (TOP / "crates/top_rows/src/examples.rt").read_text()
+SOURCES = TOP / "crates/top_rows/src"
+TESTS = "".join(path.read_text() for path in [SOURCES / "examples.rt", *sorted((SOURCES / "examples").glob("*.rt"))])
 missing = []
 files = sorted(path for path in (TOP / "examples").rglob("*") if path.is_file())
 

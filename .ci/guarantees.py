@@ -1,12 +1,15 @@
 #!/usr/bin/env python3
 """Looks up each call, clause, definition, edit and test that docs/GUARANTEES.md names, and fails on one that is gone.
 
+It also fails on a wrong body, in crates/NAME/must-fail/ or bugs/NAME/, that no longer applies to its file.
+
 A line of the document that begins with one of these words names them in backquotes:
 - Call: `crate::function` or `crate::Type::method`, then perhaps clauses: `name`, ..
 - Meaning: `path`: `name`, ..
 - Refused bugs: `path`, ..
 - Tests: `path`: `name`, ..
 A row of a table whose last cell begins with the path of a definition names definitions too.
+An edit may be named by either of its two folders, and stands in one of them.
 """
 import pathlib
 import re
@@ -55,9 +58,57 @@ def meaning(line, names):
         check(re.search(pattern, text, re.M), line, f"no definition {name} in {names[0]}")
 
 
+def edit_places(name):
+    """Both files in which the edit of this path may stand, or none for another path."""
+    parts = re.fullmatch(r"(?:crates/(\w+)/must-fail|bugs/(\w+))/([\w.-]+\.edit)", name)
+    if not parts:
+        return []
+    crate, file = parts.group(1) or parts.group(2), parts.group(3)
+    return [TOP / "crates" / crate / "must-fail" / file, TOP / "bugs" / crate / file]
+
+
 def bugs(line, names):
     for name in names:
-        check((TOP / name).is_file(), line, f"no edit {name}")
+        check(any(place.is_file() for place in edit_places(name)), line, f"no edit {name}")
+
+
+def pairs_of(edit):
+    """The replacements of an edit, in order: the file, the text that goes and the text that comes."""
+    file = old = None
+    for text in edit.read_text().split("\n"):
+        if text.startswith("file: "):
+            file = text[len("file: "):].strip()
+        elif text.startswith("old: "):
+            old = text[len("old: "):]
+        elif text.startswith("new:"):
+            yield file, old, re.sub("^new: ?", "", text)
+            old = None
+
+
+def why_not_applied(edit, crate):
+    """Why an edit can't be applied to the files of a crate, or None."""
+    texts = {}
+    for file, old, new in pairs_of(edit):
+        if not file or not old:
+            return "a 'new:' line without its 'file:' and 'old:' lines"
+        if file not in texts and not (crate / file).is_file():
+            return f"no file {file} in the crate {crate.name}"
+        text = texts.get(file) or (crate / file).read_text()
+        if text.count(old) != 1:
+            return f"an 'old:' text stands {text.count(old)} times in {file}"
+        texts[file] = text.replace(old, new)
+    return None if texts else "no 'old:' and 'new:' pair"
+
+
+def edits():
+    """Tries to apply each edit of both folders to the sources as they stand, and proves nothing."""
+    found_edits = sorted([*TOP.glob("crates/*/must-fail/*.edit"), *TOP.glob("bugs/*/*.edit")])
+    for edit in found_edits:
+        crate = TOP / "crates" / edit.relative_to(TOP).parts[1]
+        why = why_not_applied(edit, crate)
+        if why:
+            missing.append(f"{edit.relative_to(TOP)}: {why}")
+    return len(found_edits)
 
 
 def tests(line, names):
@@ -81,7 +132,8 @@ for number, text in enumerate((TOP / "docs/GUARANTEES.md").read_text().splitline
     if cell:
         meaning(number, NAMES.findall(cell.group(1)))
 
+applied = edits()
 for line in missing:
     print(line)
-print(f"guarantees: {found} names found, {len(missing)} missing")
+print(f"guarantees: {found} names and {applied} edits looked up, {len(missing)} missing or not applied")
 sys.exit(1 if missing or not found else 0)
