@@ -8,7 +8,6 @@ use Rattle.event_value.specs.declared.record.Event.{Event}
 use Rattle.event_value.specs.declared.record.Stamped.{Stamped}
 use Rattle.row_order.proofs.StretchLemmas.{rows_below-rows_from, rows_from-rows_from}
 use Rattle.tick_time.specs.Moment.{end_ticks}
-use Rattle.stream_op.specs.Rows.{between}
 use Rattle.time_policy.specs.PolicyState.{StandsFor}
 use Rattle.time_policy.specs.Verdicts.{watermark}
 use Rattle.arrival_log.specs.Kept.{events_below, lane_events, lane_watermark, policy_entries}

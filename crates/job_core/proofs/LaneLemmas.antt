@@ -22,12 +22,11 @@ use Rattle.time_policy.specs.declared.rules.Rules.{Rules}
 use Rattle.time_policy.specs.declared.verdict.Verdict.{Verdict}
 use Rattle.time_policy.specs.declared.verdict.Verdict.TheVariants.{Kept, Dropped}
 use Rattle.arrival_log.specs.Kept.{Judge, entry_drop, entry_event, kept_record, lane_events, lane_watermark, policy_entries, policy_entry, verdict_behind}
-use Rattle.job_core.specs.Lane.{IsBehindItem}
 use Rattle.arrival_log.specs.Log.{LaneEntry, Record, Broken, End, item_entry, origin, position, place_behind}
 use Rattle.arrival_log.proofs.EntryLemmas.{place_after-push, policy_entries-push, events_behind-push, drops_behind-push}
 use Rattle.query_meaning.specs.Streams.{judge_of, stamp_of, substream_of}
 use Rattle.tick_time.specs.Moment.{end_ticks}
-use Rattle.job_core.specs.Heard.{LaneHeard, entries, events_from, heard_lane, is_closed, next_entries}
+use Rattle.job_core.specs.Heard.{IsBehindItem, LaneHeard, entries, events_from, heard_lane, is_closed, next_entries}
 use Rattle.job_core.specs.Lane.{HasHeard, Hears, HearsAll, IsFed, IsSameLane, open_watermark}
 use Rattle.job_core.specs.declared.lane.Lane.{Lane}
 

@@ -1,5 +1,5 @@
 -- What a core has heard: the entries of each lane, those before the last cut and those since.
-use Rattle.std.specs.Prelude.{ℕ, zero, suc, Bool, ◌&&◌, ◌==◌, List, [], ◌∷◌, ◌++◌, map, take, drop}
+use Rattle.std.specs.Prelude.{ℕ, zero, suc, Bool, ◌&&◌, ◌≡◌, ◌+◌, ◌==◌, List, [], ◌∷◌, ◌++◌, map, take, drop}
 use Rattle.event_value.specs.declared.record.Event.{Event}
 use Rattle.event_value.specs.declared.record.Item.{Item}
 use Rattle.event_value.specs.declared.record.Position.{Position}
@@ -35,6 +35,11 @@ log_of (count ∷ counts) heard = map heard_lane (take count heard) ∷ log_of c
 -- the place up to which a lane was heard
 abbrev pub place_of : LaneHeard → Position
 place_of h = position (entries h)
+
+-- a place is the one behind the item at another
+pub record IsBehindItem (old new : Position) : Type 0 where
+  pub segment_is : new.segment ≡ old.segment
+  pub index_is : new.index ≡ old.index + 1
 
 -- a lane that is ended, of so many segments, gets no more entries behind the last
 abbrev pub is_closed : Bool → ℕ → Position → Bool

@@ -3,7 +3,6 @@ use Rattle.std.specs.Prelude.{◌≡◌, ◌≤◌, ◌<◌, ◌+◌, ◌^◌, �
 use Rattle.query_plan.specs.declared.plan.StreamUse.{StreamUse}
 use Rattle.event_value.specs.declared.policy.Policy.{Policy}
 use Rattle.event_value.specs.declared.record.Item.{Item}
-use Rattle.event_value.specs.declared.record.Position.{Position}
 use Rattle.event_value.specs.declared.record.Stamped.{Stamped}
 use Rattle.tick_time.specs.Moment.{end_ticks}
 use Rattle.time_policy.specs.PolicyState.{StandsFor}
@@ -13,11 +12,6 @@ use Rattle.arrival_log.specs.Log.{LaneEntry, position}
 use Rattle.query_meaning.specs.Streams.{judge_of, row_of}
 use Rattle.job_core.specs.Heard.{LaneHeard, events_from, heard_lane, is_closed, next_entries, with_entries}
 use Rattle.job_core.specs.declared.lane.Lane.{Lane}
-
--- a place is the one behind the item at another
-pub record IsBehindItem (old new : Position) : Type 0 where
-  pub segment_is : new.segment ≡ old.segment
-  pub index_is : new.index ≡ old.index + 1
 
 -- The lane of this partition of a stream has heard these entries, those before the last cut and those since: it has
 -- their policy state and place, the events at w or later, and the dropped records since the last cut.

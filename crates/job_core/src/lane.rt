@@ -3,8 +3,7 @@
 ghost use Rattle.std.specs.Prelude.{◌≡◌, ◌≤ℤ◌, pos, ◌+◌, ◌<◌, ◌^◌, ◌++◌, [], ◌∷◌, Some, IsTrue, ◌↔◌, IfOk, OnOk, length, map, get_or};
 ghost use Rattle.arrival_log.specs.Kept.{entry_drop, events_below, kept_record};
 ghost use Rattle.arrival_log.specs.Log.{Broken, End, Record, item_entry};
-ghost use Rattle.job_core.specs.Heard.{events_from};
-ghost use Rattle.job_core.specs.Lane.{IsBehindItem};
+ghost use Rattle.job_core.specs.Heard.{IsBehindItem, events_from};
 ghost use Rattle.query_meaning.specs.Streams.{row_of};
 
 use event_value::{
