@@ -1,0 +1,3 @@
+-- what the contracts rest on
+pub mod Given
+pub mod MemClock
