@@ -1,6 +1,6 @@
 //! `MemConn`, a connection in memory.
 
-ghost use Rattle.std.specs.Prelude.{◌<◌, ◌≤◌, ◌≡◌, ◌↔◌, [], length, Some, option_map};
+ghost use Rattle.std.specs.Prelude.{◌<◌, ◌≤◌, ◌≡◌, ◌↔◌, [], min, length, Some, option_map};
 ghost use Rattle.std.specs.Prelude.{IfOk, IfSome, IsErr, IsErrOf};
 ghost use Rattle.outside.specs.Faults.{HasRisen};
 ghost use Rattle.outside.specs.FailingCalls.{IsDue, IsNextCall};
@@ -82,8 +82,9 @@ impl Conn for MemConn {
         ensures cause { IsErrOf result ConnErr.Fault
             → HasRisen self.old.failing.faults self.new.failing.faults }
 
-        // Which calls fail: those that are to.
+        // Which calls fail: those that are to. Every other gives as much as is left and fits.
         ensures fault { IsErr result ↔ IsDue self.old.failing }
+        ensures all { IfOk result (λ count. count ≡ min (length self.old.left) (length into.old)) }
         ensures counts { IsNextCall self.old.failing self.new.failing }
     {
         if self.failures.next_fails() {
