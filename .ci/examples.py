@@ -2,10 +2,16 @@
 """Compares the files of examples/ with their texts in the tests of the program, which the gate runs.
 
 Each file of an example stands in the tests as a literal, and the stored run of the program is one of them.
+Then runs the texts of GUIDE's "Reading a refusal" by the program that the gate has built: each is refused with
+the line that stands beside it, and what is to be written instead is taken; QUERY's parts of texts are theirs.
+Where no program is built, no text is run. With --unproved they are run before anything is proved.
 """
 import pathlib
 import re
+import shutil
+import subprocess
 import sys
+import tempfile
 
 TOP = pathlib.Path(__file__).resolve().parent.parent
 SOURCES = TOP / "crates/top_rows/src"
@@ -33,7 +39,65 @@ for path in [TOP / "README.md", *sorted((TOP / "docs").glob("*.md"))]:
         if (TOP / "examples" / name / "expected.txt").read_text() not in text:
             missing.append(f"{path.relative_to(TOP)} shows another text than that of examples/{name}")
 
+GUIDE, QUERY = ((TOP / "docs" / name).read_text() for name in ("GUIDE.md", "QUERY.md"))
+BUILT = TOP / "crates/jobs_cli/out/jobs_cli"
+program = [str(TOP / "stream_jobs"), "--unproved"] if "--unproved" in sys.argv[1:] else [str(BUILT)]
+ran = 0
+
+
+def rows(text, head):
+    """The cells of each row of the table with this head."""
+    lines = text.partition(f"| {head} |\n")[2].splitlines()[1:]
+    for line in lines[: next((at for at, line in enumerate(lines) if not line.startswith("|")), len(lines))]:
+        yield [cell.strip() for cell in line.strip("|").split("|")]
+
+
+def code(cell):
+    """The first text in backquotes."""
+    return re.search(r"`([^`]+)`", cell)[1]
+
+
+def answer(query):
+    """What `check` writes for a query over the document of examples/sensor."""
+    global ran
+    ran += 1
+    with tempfile.TemporaryDirectory() as folder:
+        (pathlib.Path(folder) / "query.sql").write_text(query)
+        shutil.copy(TOP / "examples/sensor/inputs.toml", folder)
+        words = [*program, "-", "check", "query.sql", "inputs.toml"]
+        done = subprocess.run(words, cwd=folder, stdout=subprocess.PIPE, stderr=subprocess.DEVNULL, text=True)
+        return done.stdout.rstrip("\n")
+
+
+def expect(holds, what):
+    """Notes what doesn't hold."""
+    if not holds:
+        missing.append(f"docs: {what}")
+
+
+# GUIDE: a name of a refusal, a text and its place; a text, its line, and the text to be written.
+refused = [(text, f"error 3 {name} {place}") for name, text, place in re.findall(
+    r"^\| `(Query\.\w+) PLACE` \| `([^`]+)`: (\d+) \|", GUIDE, re.M) if ".." not in text]
+table = [tuple(map(code, cells)) for cells in rows(GUIDE, "Written | Refused | To be written")]
+expect(refused and table, "GUIDE has no texts that are refused")
+if program[0] != str(BUILT) or BUILT.is_file():
+    for text, line in [*refused, *(row[:2] for row in table)]:
+        found = answer(text)
+        expect(found == line, f"{text} gives {found}, not {line}")
+    for better in dict.fromkeys(row[2] for row in table):
+        found = answer(better)
+        expect(found and not found.startswith("error"), f"{better} gives {found}")
+
+# QUERY: a part of a text of GUIDE's table, the refusal and the word at its place, a part of the text to be written.
+parts = list(rows(QUERY, "Written there | Refused here | To be written"))
+expect(len(parts) == len(table), "QUERY has other texts than GUIDE")
+for written, refusal, better in parts:
+    name, word = refusal.split(" at ")[0], code(refusal)
+    expect(any(code(written) in text and code(better) in instead and line.split()[2] == f"Query.{name}"
+               and text.encode()[int(line.split()[3]):].decode().startswith(word) for text, line, instead in table),
+           f"{written} isn't refused so in GUIDE, or {better} isn't written there")
+
 for line in missing:
     print(line)
-print(f"examples: {len(files)} files, {len(missing)} differ")
+print(f"examples: {len(files)} files, {ran} texts run, {len(missing)} differ")
 sys.exit(1 if missing or not files else 0)
