@@ -14,7 +14,7 @@ use Rattle.query_plan.specs.declared.expr.Cond.TheOpen.{Expr-F}
 use Rattle.query_plan.specs.declared.expr.Cond.{Cond}
 use Rattle.query_plan.specs.declared.expr.Cond.TheVariants as cond
 use Rattle.query_plan.specs.declared.expr.Branch.{Branch}
-use Rattle.query_forms.specs.declared.fault.Rule.TheVariants as rule
+use Rattle.query_forms.specs.declared.fault.Cause.TheVariants as cause
 use Rattle.query_forms.specs.declared.form.Form.{Form}
 use Rattle.query_forms.specs.declared.form.Form.TheVariants as form
 use Rattle.query_forms.specs.declared.sense.Sense.{Sense}
@@ -203,6 +203,15 @@ unfoldable pub operation : Op → List Sense → Option Sense
 operation o parts =
     after (kinds_from [] parts) (λ ks. after (operation_kind o ks) (λ k. operation_of o k parts))
 
+-- for private clauses: an operation on two values, where their kinds fit it
+abbrev pub pair_applied : Op → Valued → Valued → Option Kind → Sense
+pair_applied o a b k =
+    Val (valued (expr.Apply o (widened (widening o k) a ∷ widened (widening o k) b ∷ [])) k)
+
+abbrev pub operation_of_values : Op → Valued → Valued → Option Sense
+operation_of_values o a b =
+    after (operation_kind o (a.kind ∷ b.kind ∷ [])) (λ k. Some (pair_applied o a b k))
+
 -- ---- a value among others
 
 abbrev pub comparable_expr : Option Kind → Sense → Option Expr
@@ -304,10 +313,10 @@ made f parts = made_of f parts
 
 -- the same, or that the kinds don't fit
 abbrev pub or_unfit : ℕ → Option Sense → Checked Sense
-or_unfit place None = refused place rule.Kind
+or_unfit place None = refused place cause.Kind
 or_unfit place (Some s) = Ok s
 
 -- the same, where the form is built
 unfoldable pub shaped : ℕ → Form → List Sense → Checked Sense
-shaped place form.Unknown parts = refused place rule.Unsupported
+shaped place form.Unknown parts = refused place cause.Unsupported
 shaped place f parts = or_unfit place (made f parts)

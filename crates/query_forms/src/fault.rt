@@ -8,7 +8,7 @@ use std::alloc::Global;
 
 /// A rule that a part of a query can break. Rules are numbered from 1, in this order.
 #[derive(Clone, Copy, PartialEq, Eq)]
-pub enum Rule {
+pub enum Cause {
     /// No source has this name.
     UnknownSource,
     /// No source in reach has this column.
@@ -41,7 +41,7 @@ pub struct Fault {
     /// The first byte of the part that breaks it.
     pub place: u32,
     /// The rule.
-    pub rule: Rule,
+    pub cause: Cause,
 }
 
 impl Copies for Fault {
@@ -53,22 +53,22 @@ impl Copies for Fault {
 /// What is made of a part, or all the faults in it.
 pub type Checked<A> = Result<A, Seq<Fault>>;
 
-fn rule_number(rule: Rule) -> u8
-    ensures { result ≡ spec.rule_number rule }
+fn cause_number(cause: Cause) -> u8
+    ensures { result ≡ spec.cause_number cause }
 {
-    match rule {
-        Rule::UnknownSource => 1,
-        Rule::UnknownColumn => 2,
-        Rule::Ambiguous => 3,
-        Rule::Kind => 4,
-        Rule::Aggregate => 5,
-        Rule::NotGrouped => 6,
-        Rule::Window => 7,
-        Rule::Bound => 8,
-        Rule::StampTwice => 9,
-        Rule::NameTwice => 10,
-        Rule::TooMany => 11,
-        Rule::Unsupported => 12,
+    match cause {
+        Cause::UnknownSource => 1,
+        Cause::UnknownColumn => 2,
+        Cause::Ambiguous => 3,
+        Cause::Kind => 4,
+        Cause::Aggregate => 5,
+        Cause::NotGrouped => 6,
+        Cause::Window => 7,
+        Cause::Bound => 8,
+        Cause::StampTwice => 9,
+        Cause::NameTwice => 10,
+        Cause::TooMany => 11,
+        Cause::Unsupported => 12,
     }
 }
 
@@ -76,11 +76,11 @@ fn rule_number(rule: Rule) -> u8
 ///
 /// # Errors
 /// `Memory` where there was none for the fault.
-pub fn refuse<A: Drop>(alloc: Global, place: u32, rule: Rule) -> Result<Checked<A>, Memory>
-    ensures { IfOk result (λ checked. checked ≡ spec.refused place rule) }
+pub fn refuse<A: Drop>(alloc: Global, place: u32, cause: Cause) -> Result<Checked<A>, Memory>
+    ensures { IfOk result (λ checked. checked ≡ spec.refused place cause) }
 {
     let mut faults = Seq::empty(alloc);
-    faults.push(Fault { place, rule })?;
+    faults.push(Fault { place, cause })?;
     Ok(Err(faults))
 }
 
@@ -101,7 +101,7 @@ fn earlier(first: Fault, second: Fault) -> Fault
     ensures { result ≡ spec.earlier first second }
 {
     let is_before = second.place < first.place
-        || (second.place == first.place && rule_number(second.rule) < rule_number(first.rule));
+        || (second.place == first.place && cause_number(second.cause) < cause_number(first.cause));
     if is_before { second } else { first }
 }
 

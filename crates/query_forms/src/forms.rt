@@ -7,7 +7,7 @@ use crate::cases::{choice, choice_by_subject};
 use crate::conditions::{
     between, comparison, conjunction, disjunction, likeness, membership, negation, null_test,
 };
-use crate::fault::{Checked, Rule, refuse};
+use crate::fault::{Cause, Checked, refuse};
 use crate::form::Form;
 use crate::operations::{conversion, operation};
 use crate::sense::Sense;
@@ -91,7 +91,7 @@ fn made_or_unfit(
         checked ≡ spec.or_unfit place (spec.made form parts.now)) }
 {
     match made(alloc, form, parts)? {
-        None => refuse(alloc, place, Rule::Kind),
+        None => refuse(alloc, place, Cause::Kind),
         Some(sense) => Ok(Ok(sense)),
     }
 }
@@ -107,7 +107,7 @@ pub fn shaped(
     ensures { IfOk result (λ checked. checked ≡ spec.shaped place form parts.now) }
 {
     match form {
-        Form::Unknown => refuse(alloc, place, Rule::Unsupported),
+        Form::Unknown => refuse(alloc, place, Cause::Unsupported),
         _ => made_or_unfit(alloc, place, form, parts),
     }
 }

@@ -14,10 +14,12 @@ mod form;
 mod forms;
 mod kinds;
 mod operations;
+mod pairs;
 mod sense;
 
-pub use fault::{Checked, Fault, Rule, least, push_faults, refuse};
+pub use fault::{Cause, Checked, Fault, least, push_faults, refuse};
 pub use form::{Form, prod_form, rel_of, sum_form};
 pub use forms::shaped;
 pub use kinds::{is_number, is_of, is_same_kind};
+pub use pairs::shaped_pair;
 pub use sense::{Sense, Valued};

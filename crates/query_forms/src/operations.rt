@@ -29,7 +29,8 @@ pub fn conversion(alloc: Global, to: Kind, part: &Sense) -> Result<Option<Sense>
     }
 }
 
-fn is_widened(common: Option<Kind>, kind: Option<Kind>) -> bool
+/// Whether a value of a kind is cast to fixed beside a common kind.
+pub fn is_widened(common: Option<Kind>, kind: Option<Kind>) -> bool
     ensures { result ≡ spec.is_widened common kind }
 {
     match common {
@@ -225,8 +226,9 @@ fn kind_of_choices(kinds: &[Option<Kind>]) -> Option<Option<Kind>>
     }
 }
 
+/// The kind of an operation on values of these kinds, where they fit it.
 #[tactic(auto, unfolding(crate::specs::Senses::operation_kind))]
-fn operation_kind(op: Op, kinds: &[Option<Kind>]) -> Option<Option<Kind>>
+pub fn operation_kind(op: Op, kinds: &[Option<Kind>]) -> Option<Option<Kind>>
     ensures { result ≡ spec.operation_kind op kinds.now }
 {
     match op {
@@ -236,7 +238,8 @@ fn operation_kind(op: Op, kinds: &[Option<Kind>]) -> Option<Option<Kind>>
     }
 }
 
-fn widening(op: Op, kind: Option<Kind>) -> Option<Kind>
+/// The kind to which bigint operands are cast.
+pub fn widening(op: Op, kind: Option<Kind>) -> Option<Kind>
     ensures { result ≡ spec.widening op kind }
 {
     match op {

@@ -15,8 +15,8 @@ use Rattle.query_readings.specs.declared.columns.Finding.TheVariants as finding
 use Rattle.query_readings.specs.declared.columns.Found.{Found}
 use Rattle.query_readings.specs.declared.columns.Found.TheVariants as found
 use Rattle.query_forms.specs.declared.fault.Fault.{Fault}
-use Rattle.query_forms.specs.declared.fault.Rule.{Rule}
-use Rattle.query_forms.specs.declared.fault.Rule.TheVariants as rule
+use Rattle.query_forms.specs.declared.fault.Cause.{Cause}
+use Rattle.query_forms.specs.declared.fault.Cause.TheVariants as cause
 use Rattle.query_forms.specs.declared.form.Form.{Form}
 use Rattle.query_readings.specs.declared.reading.AggregateCall.{AggregateCall}
 use Rattle.query_readings.specs.declared.reading.Face.{Face}
@@ -79,6 +79,12 @@ calls_of (r ∷ rs) = r.calls ++ calls_of rs
 abbrev pub shaped_side : ℕ → Form → Side → List Reading → Outcome
 shaped_side place f side parts = and_then (checked_senses side parts) (shaped place f)
 
+-- for private clauses: the same of two parts, by what each is
+abbrev pub shaped_pair : ℕ → Form → Outcome → Outcome → Outcome
+shaped_pair place f left right =
+    and_then (unless_faults (faults_in left ++ faults_in right) (senses_in left ++ senses_in right))
+    (shaped place f)
+
 -- ---- group expressions
 
 -- a column as a value
@@ -121,6 +127,12 @@ formed scope place f parts =
     keyed scope place (shaped_side place f Rows parts) (shaped_side place f Groups parts)
     (calls_of parts) face.Other
 
+-- for private clauses: two parts in a form, the first by what it is
+abbrev pub joined : Scope → ℕ → Form → Outcome → Outcome → List AggregateCall → Reading → Reading
+joined scope place f rows groups calls right =
+    keyed scope place (shaped_pair place f rows right.rows) (shaped_pair place f groups right.groups)
+    (calls ++ right.calls) face.Other
+
 abbrev pub formed_of_one : Scope → ℕ → Form → Reading → Reading
 formed_of_one scope place f part = formed scope place f (part ∷ [])
 
@@ -143,7 +155,7 @@ operations scope place so_far (p ∷ ps) =
 abbrev pub plain : Scope → ℕ → Sense → Face → Reading
 plain scope place s written = keyed scope place (Ok s) (Ok s) [] written
 
-abbrev pub refused_reading : ℕ → Rule → Reading
+abbrev pub refused_reading : ℕ → Cause → Reading
 refused_reading place r = record {
   place = place;
   rows = refused place r;
@@ -169,11 +181,18 @@ abbrev pub found_from : Found → List ScopeSource → List ℕ → Found
 found_from so_far [] name = so_far
 found_from so_far (s ∷ ss) name = found_from (with_found so_far (column_in s.columns name)) ss name
 
--- the column of the first source of this name
-abbrev pub qualified_in : List ScopeSource → List ℕ → List ℕ → Option (ℕ × Option Kind)
-qualified_in [] source name = None
+-- a column of a source that is named: nothing is decided of a source that is unknown
+abbrev pub finding_in_source : ScopeSource → Option (ℕ × Option Kind) → Finding
+finding_in_source s (Some c) = finding.Column c.0 c.1
+finding_in_source s None =
+    if s.known then finding.Missing cause.UnknownColumn else finding.Undecided
+
+-- a column behind the name of a source: the first source of this name has it or nobody
+abbrev pub qualified_in : List ScopeSource → List ℕ → List ℕ → Finding
+qualified_in [] source name = finding.Missing cause.UnknownColumn
 qualified_in (s ∷ ss) source name =
-    if bytes_eq s.name source then column_in s.columns name else qualified_in ss source name
+    if bytes_eq s.name source then finding_in_source s (column_in s.columns name)
+    else qualified_in ss source name
 
 abbrev pub are_known : List ScopeSource → Bool
 are_known [] = true
@@ -181,22 +200,18 @@ are_known (s ∷ ss) = s.known && are_known ss
 
 -- a column that no source has isn't refused where a source is unknown
 abbrev pub missing : List ScopeSource → Finding
-missing sources = if are_known sources then finding.Missing rule.UnknownColumn else finding.Undecided
+missing sources = if are_known sources then finding.Missing cause.UnknownColumn else finding.Undecided
 
 abbrev pub finding_of_found : List ScopeSource → Found → Finding
 finding_of_found sources found.Nowhere = missing sources
 finding_of_found sources (found.Once n k) = finding.Column n k
-finding_of_found sources found.Twice = finding.Missing rule.Ambiguous
-
-abbrev pub finding_of_column : List ScopeSource → Option (ℕ × Option Kind) → Finding
-finding_of_column sources None = missing sources
-finding_of_column sources (Some c) = finding.Column c.0 c.1
+finding_of_found sources found.Twice = finding.Missing cause.Ambiguous
 
 abbrev pub finding_with : List ScopeSource → Name → Option Name → Finding
 finding_with sources first None =
     finding_of_found sources (found_from found.Nowhere sources first.text)
 finding_with sources first (Some second) =
-    finding_of_column sources (qualified_in sources first.text second.text)
+    qualified_in sources first.text second.text
 
 -- what a path finds among the sources
 unfoldable pub finding_of : List ScopeSource → Path → Finding
@@ -212,7 +227,7 @@ column_over_rows place finding.Undecided = Ok (undecided None)
 column_over_rows place (finding.Missing r) = refused place r
 
 abbrev pub column_over_groups : ℕ → Finding → Outcome
-column_over_groups place (finding.Column n k) = refused place rule.NotGrouped
+column_over_groups place (finding.Column n k) = refused place cause.NotGrouped
 column_over_groups place finding.Undecided = Ok (undecided None)
 column_over_groups place (finding.Missing r) = refused place r
 
@@ -234,11 +249,24 @@ named_column scope path =
 unfoldable pub time_reading : Scope → ℕ → Reading
 time_reading scope place =
     if scope.timed then plain scope place (Value (valued expr.Stamp (Some kind.Moment))) face.Other
-    else refused_reading place rule.Unsupported
+    else refused_reading place cause.Unsupported
 
 unfoldable pub column_reading : Scope → Path → Reading
 column_reading scope path =
     if is_time path then time_reading scope path.place else named_column scope path
+
+-- ---- patterns
+
+-- what a text that is written out is over the rows it is over the groups, whatever it equals there
+abbrev pub pattern_over_groups : Face → Outcome → Outcome → Outcome
+pattern_over_groups face.Literal rows groups = rows
+pattern_over_groups (face.Word name) rows groups = groups
+pattern_over_groups (face.Qualified name) rows groups = groups
+pattern_over_groups face.Other rows groups = groups
+
+-- what stands on the right of LIKE: a text that is written out is no group expression there
+unfoldable pub as_pattern : Reading → Reading
+as_pattern r = record r { groups = pattern_over_groups r.face r.rows r.groups }
 
 -- ---- aggregates
 
@@ -260,12 +288,12 @@ aggregate_kind agg.Min k = k
 aggregate_kind agg.Max k = k
 
 abbrev pub argument_in : ℕ → AggKind → Sense → Checked Valued
-argument_in place a (Value v) = if is_aggregable a v.kind then Ok v else refused place rule.Kind
-argument_in place a (Condition c) = refused place rule.Kind
+argument_in place a (Value v) = if is_aggregable a v.kind then Ok v else refused place cause.Kind
+argument_in place a (Condition c) = refused place cause.Kind
 
 abbrev pub argument_of : ℕ → AggKind → List Sense → Checked Valued
 argument_of place a (s ∷ []) = argument_in place a s
-argument_of place a _ = refused place rule.Kind
+argument_of place a _ = refused place cause.Kind
 
 -- the argument of an aggregate is read over the rows
 unfoldable pub aggregate_argument : ℕ → AggKind → List Reading → Checked Valued
@@ -289,7 +317,7 @@ aggregate_call place a argument = record { place = place; kind = a; argument = a
 abbrev pub aggregate_reading : Scope → ℕ → Option Kind → AggregateCall → Reading
 aggregate_reading scope place k call = record {
   place = place;
-  rows = refused place rule.Aggregate;
+  rows = refused place cause.Aggregate;
   groups = Ok (aggregate_sense scope place k);
   calls = call ∷ [];
   face = face.Other;

@@ -4,10 +4,12 @@ ghost use Rattle.std.specs.Prelude.{◌≡◌, IfOk};
 ghost use Rattle.query_readings.specs.Reading as spec;
 
 use crate::columns::undecided;
-use crate::reading::{AggregateCall, Face, Reading, Side, checked_senses, column_sense};
+use crate::forming::column_sense;
+use crate::outcomes::checked_senses;
+use crate::reading::{AggregateCall, Face, Reading, Side};
 use crate::scope::{AggregateColumn, Scope};
 use event_value::{AggKind, Copies, Kind, Memory, Seq};
-use query_forms::{Checked, Rule, Sense, Valued, is_number, refuse};
+use query_forms::{Cause, Checked, Sense, Valued, is_number, refuse};
 use std::alloc::Global;
 
 fn is_aggregable(aggregate: AggKind, kind: Option<Kind>) -> bool
@@ -45,12 +47,12 @@ fn argument_in(
     ensures { IfOk result (λ argument. argument ≡ spec.argument_in place aggregate part.now) }
 {
     match part {
-        Sense::Condition(_) => refuse(alloc, place, Rule::Kind),
+        Sense::Condition(_) => refuse(alloc, place, Cause::Kind),
         Sense::Value(value) => {
             if is_aggregable(aggregate, value.kind) {
                 return Ok(Ok(value.copy(alloc)?));
             }
-            refuse(alloc, place, Rule::Kind)
+            refuse(alloc, place, Cause::Kind)
         }
     }
 }
@@ -65,7 +67,7 @@ fn argument_of(
 {
     match parts {
         [part] => argument_in(alloc, place, aggregate, part),
-        _ => refuse(alloc, place, Rule::Kind),
+        _ => refuse(alloc, place, Cause::Kind),
     }
 }
 
@@ -119,7 +121,7 @@ fn aggregate_reading(
     calls.push(call)?;
     Ok(Reading {
         place,
-        rows: refuse(alloc, place, Rule::Aggregate)?,
+        rows: refuse(alloc, place, Cause::Aggregate)?,
         groups: Ok(aggregate_sense(scope, place, kind)),
         calls,
         face: Face::Other,

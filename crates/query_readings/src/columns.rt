@@ -4,11 +4,12 @@ ghost use Rattle.std.specs.Prelude.{◌≡◌, IfOk};
 ghost use Rattle.query_readings.specs.Reading as spec;
 ghost use Rattle.query_readings.specs.declared.columns.Found.TheVariants as spec_found;
 
+use crate::forming::{column_sense, keyed, plain, refused_reading};
 use crate::functions::is_time;
-use crate::reading::{Face, Outcome, Reading, column_sense, keyed, plain, refused_reading};
+use crate::reading::{Face, Outcome, Reading};
 use crate::scope::{Scope, ScopeColumn, ScopeSource};
 use event_value::{Copies, Kind, Memory, Seq, Value};
-use query_forms::{Rule, Sense, Valued, refuse};
+use query_forms::{Cause, Sense, Valued, refuse};
 use query_plan::Expr;
 use query_tree::Path;
 use std::alloc::Global;
@@ -29,7 +30,7 @@ pub enum Finding {
     /// Nothing, where a source is unknown that may have it.
     Undecided,
     /// Nothing, by this rule.
-    Missing(Rule),
+    Missing(Cause),
 }
 
 fn column_in(columns: &[ScopeColumn], name: &[u8]) -> Option<(u16, Option<Kind>)>
@@ -66,15 +67,32 @@ fn found_in(sources: &[ScopeSource], name: &[u8]) -> Found
     found
 }
 
-fn qualified_in(sources: &[ScopeSource], name: &[u8], column: &[u8]) -> Option<(u16, Option<Kind>)>
+fn finding_in_source(source: &ScopeSource, column: &[u8]) -> Finding
+    ensures { result ≡ spec.finding_in_source source.now (
+        spec.column_in source.now.columns column.now) }
+{
+    match column_in(source.columns.items(), column) {
+        Some((column, kind)) => Finding::Column(column, kind),
+        None => {
+            if source.known {
+                Finding::Missing(Cause::UnknownColumn)
+            } else {
+                Finding::Undecided
+            }
+        }
+    }
+}
+
+// A column behind the name of a source.
+fn qualified_in(sources: &[ScopeSource], name: &[u8], column: &[u8]) -> Finding
     ensures { result ≡ spec.qualified_in sources.now name.now column.now }
 {
     for source in sources {
         if source.name.items() == name {
-            return column_in(source.columns.items(), column);
+            return finding_in_source(source, column);
         }
     }
-    None
+    Finding::Missing(Cause::UnknownColumn)
 }
 
 fn are_known(sources: &[ScopeSource]) -> bool
@@ -92,7 +110,7 @@ fn missing(sources: &[ScopeSource]) -> Finding
     ensures { result ≡ spec.missing sources.now }
 {
     if are_known(sources) {
-        Finding::Missing(Rule::UnknownColumn)
+        Finding::Missing(Cause::UnknownColumn)
     } else {
         Finding::Undecided
     }
@@ -107,14 +125,9 @@ pub fn finding_of(sources: &[ScopeSource], path: &Path) -> Finding
         None => match found_in(sources, path.first.text.items()) {
             Found::Nowhere => missing(sources),
             Found::Once(column, kind) => Finding::Column(column, kind),
-            Found::Twice => Finding::Missing(Rule::Ambiguous),
+            Found::Twice => Finding::Missing(Cause::Ambiguous),
         },
-        Some(second) => {
-            match qualified_in(sources, path.first.text.items(), second.text.items()) {
-                None => missing(sources),
-                Some((column, kind)) => Finding::Column(column, kind),
-            }
-        }
+        Some(second) => qualified_in(sources, path.first.text.items(), second.text.items()),
     }
 }
 
@@ -134,7 +147,7 @@ fn column_over_rows(alloc: Global, place: u32, finding: Finding) -> Result<Outco
     match finding {
         Finding::Column(column, kind) => Ok(Ok(column_sense(column, kind))),
         Finding::Undecided => Ok(Ok(undecided(None))),
-        Finding::Missing(rule) => refuse(alloc, place, rule),
+        Finding::Missing(cause) => refuse(alloc, place, cause),
     }
 }
 
@@ -142,9 +155,9 @@ fn column_over_groups(alloc: Global, place: u32, finding: Finding) -> Result<Out
     ensures { IfOk result (λ outcome. outcome ≡ spec.column_over_groups place finding) }
 {
     match finding {
-        Finding::Column(_, _) => refuse(alloc, place, Rule::NotGrouped),
+        Finding::Column(_, _) => refuse(alloc, place, Cause::NotGrouped),
         Finding::Undecided => Ok(Ok(undecided(None))),
-        Finding::Missing(rule) => refuse(alloc, place, rule),
+        Finding::Missing(cause) => refuse(alloc, place, cause),
     }
 }
 
@@ -174,7 +187,7 @@ pub fn time_reading(alloc: Global, scope: &Scope, place: u32) -> Result<Reading,
     ensures { IfOk result (λ reading. reading ≡ spec.time_reading scope.now place) }
 {
     if !scope.timed {
-        return refused_reading(alloc, place, Rule::Unsupported);
+        return refused_reading(alloc, place, Cause::Unsupported);
     }
     let time = Sense::Value(Valued {
         expr: Expr::Stamp,

@@ -9,17 +9,18 @@
 
 mod aggregates;
 mod columns;
+mod forming;
 mod functions;
+mod outcomes;
 mod reading;
 mod same;
 mod scope;
 
 pub use aggregates::{aggregate, row_count};
 pub use columns::{Finding, column_reading, finding_of, time_reading};
+pub use forming::{as_pattern, chain, formed, formed_of_one, operations, plain, refused_reading};
 pub use functions::{DateOperation, Function, date_form, function_of, is_time, like_form};
-pub use reading::{
-    AggregateCall, Face, Outcome, Part, Reading, Rest, Side, chain, formed, formed_of_one,
-    operations, plain, push_calls, refused_reading, take_side,
-};
+pub use outcomes::take_side;
+pub use reading::{AggregateCall, Face, Outcome, Part, PredicateRest, Reading, Side, push_calls};
 pub use same::is_same_expr;
 pub use scope::{AggregateColumn, GroupKey, Scope, ScopeColumn, ScopeSource};

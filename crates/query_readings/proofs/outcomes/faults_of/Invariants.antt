@@ -1,7 +1,7 @@
 use Rattle.std.proofs.Common.{◌≡◌, ◌++◌, drop}
 use Rattle.query_readings.specs.Reading as spec
-use Rattle.query_readings.proofs.reading.calls_of.Given as goal
+use Rattle.query_readings.proofs.outcomes.faults_of.Given as goal
 
 abbrev pub invariant-loop-part : goal.invariant-loop-part
 invariant-loop-part l =
-    l.calls ++ spec.calls_of (drop l.part-index l.parts) ≡ spec.calls_of l.parts
+    l.faults ++ spec.faults_of l.side (drop l.part-index l.parts) ≡ spec.faults_of l.side l.parts

@@ -1,6 +1,6 @@
 use Rattle.std.proofs.Common.{◌≡◌, drop}
 use Rattle.query_readings.specs.Reading as spec
-use Rattle.query_readings.proofs.reading.chain.Given as goal
+use Rattle.query_readings.proofs.forming.chain.Given as goal
 
 abbrev pub invariant-loop-part : goal.invariant-loop-part
 invariant-loop-part l =

@@ -1,6 +1,6 @@
 use Rattle.std.proofs.Common.{◌≡◌, drop}
 use Rattle.query_readings.specs.Reading as spec
-use Rattle.query_readings.proofs.reading.key_from.Given as goal
+use Rattle.query_readings.proofs.forming.key_from.Given as goal
 
 abbrev pub invariant-loop-key : goal.invariant-loop-key
 invariant-loop-key l =
