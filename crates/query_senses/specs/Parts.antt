@@ -10,14 +10,14 @@ use Rattle.query_tree.specs.declared.name.Number.{Number}
 use Rattle.query_tree.specs.declared.name.Number.TheVariants.{Whole, Decimal}
 use Rattle.query_tree.specs.declared.name.TypeName.{TypeName}
 use Rattle.query_senses.specs.declared.calls.Given.{Given}
-use Rattle.query_senses.specs.declared.calls.Mark.{Mark}
-use Rattle.query_senses.specs.declared.calls.Mark.TheVariants.{Plain, Distinct}
-use Rattle.query_forms.specs.declared.fault.Rule.TheVariants as rule
+use Rattle.query_senses.specs.declared.calls.Quantifier.{Quantifier}
+use Rattle.query_senses.specs.declared.calls.Quantifier.TheVariants.{Plain, Distinct}
+use Rattle.query_forms.specs.declared.fault.Cause.TheVariants as cause
 use Rattle.query_forms.specs.declared.form.Form.{Form}
 use Rattle.query_forms.specs.declared.form.Form.TheVariants as form
 use Rattle.query_readings.specs.declared.reading.Face.TheVariants as face
 use Rattle.query_readings.specs.declared.reading.Reading.{Reading}
-use Rattle.query_readings.specs.declared.reading.Rest.{Rest}
+use Rattle.query_readings.specs.declared.reading.PredicateRest.{PredicateRest}
 use Rattle.query_readings.specs.declared.scope.Scope.{Scope}
 use Rattle.query_forms.specs.declared.sense.Sense.{Sense}
 use Rattle.query_forms.specs.declared.sense.Sense.TheVariants.{Value}
@@ -35,10 +35,10 @@ abbrev pub nested : ℕ → Reading → Reading
 nested place inner = record inner { place = place; face = face.Other }
 
 abbrev pub nothing_given : Given
-nothing_given = record { mark = Plain; parts = [] }
+nothing_given = record { quantifier = Plain; parts = [] }
 
-abbrev pub mark_of : Bool → Mark
-mark_of distinct = if distinct then Distinct else Plain
+abbrev pub quantifier_of : Bool → Quantifier
+quantifier_of distinct = if distinct then Distinct else Plain
 
 -- the kind of a type word
 unfoldable pub kind_named : List ℕ → Option Kind
@@ -59,7 +59,7 @@ kind_of_type to = kind_with_size to.word to.size
 
 abbrev pub cast_to : Scope → ℕ → Reading → ℕ → Option Kind → Reading
 cast_to scope place inner at None =
-    formed scope place form.Unfit (inner ∷ refused_reading at rule.Unsupported ∷ [])
+    formed scope place form.Unfit (inner ∷ refused_reading at cause.Unsupported ∷ [])
 cast_to scope place inner at (Some k) = formed_of_one scope place (form.Cast k) inner
 
 -- a cast; a type that isn't one is refused at its word, beside what is refused in the part
@@ -82,17 +82,17 @@ abbrev pub excess_with : Form → List Reading → Option ℕ
 excess_with (form.In negated) parts = place_above_limit parts
 excess_with _ parts = None
 
-abbrev pub excess_of : Rest → Option ℕ
+abbrev pub excess_of : PredicateRest → Option ℕ
 excess_of rest = excess_with rest.form rest.parts
 
 abbrev pub limited : ℕ → Outcome → Outcome
-limited place outcome = and_then outcome (λ s. refused place rule.TooMany)
+limited place outcome = and_then outcome (λ s. refused place cause.TooMany)
 
 abbrev pub limited_reading : Option ℕ → Reading → Reading
 limited_reading None r = r
 limited_reading (Some place) r = record r { rows = limited place r.rows; groups = limited place r.groups }
 
 -- a sum with what stands behind it
-unfoldable pub pred_reading : Scope → ℕ → Reading → Rest → Reading
+unfoldable pub pred_reading : Scope → ℕ → Reading → PredicateRest → Reading
 pred_reading scope place sum rest =
     limited_reading (excess_of rest) (formed scope place rest.form (sum ∷ rest.parts))

@@ -21,21 +21,21 @@ use Rattle.query_tree.specs.declared.expr.Sum.{Sum, fold-Sum}
 use Rattle.query_tree.specs.declared.expr.SumMore.{SumMore, fold-SumMore}
 use Rattle.query_tree.specs.declared.expr.When.{When, fold-When}
 use Rattle.query_senses.specs.declared.calls.Given.{Given}
-use Rattle.query_senses.specs.declared.calls.Mark.TheVariants.{Star}
+use Rattle.query_senses.specs.declared.calls.Quantifier.TheVariants.{Star}
 use Rattle.query_forms.specs.declared.form.Form.{Form}
 use Rattle.query_forms.specs.declared.form.Form.TheVariants as form
 use Rattle.query_readings.specs.declared.reading.Face.TheVariants as face
 use Rattle.query_readings.specs.declared.reading.Part.{Part}
 use Rattle.query_readings.specs.declared.reading.Reading.{Reading}
-use Rattle.query_readings.specs.declared.reading.Rest.{Rest}
+use Rattle.query_readings.specs.declared.reading.PredicateRest.{PredicateRest}
 use Rattle.query_readings.specs.declared.scope.Scope.{Scope}
 use Rattle.query_forms.specs.declared.sense.Sense.TheVariants.{Value}
 use Rattle.query_forms.specs.Forms.{rel_of, sum_form, prod_form}
 use Rattle.query_readings.specs.Functions.{like_form}
 use Rattle.query_senses.specs.Levels.{ArgsLevel, CallLevel, NotLevel, PredRestLevel, PrimaryLevel, UnaryLevel, AndLevel, CaseLevel, ExprLevel, PredLevel, ProdLevel, ProdMoreLevel, SumLevel, SumMoreLevel, WhenLevel}
-use Rattle.query_senses.specs.Parts.{number_sense, nested, nothing_given, mark_of, cast_reading, pred_reading}
+use Rattle.query_senses.specs.Parts.{number_sense, nested, nothing_given, quantifier_of, cast_reading, pred_reading}
 use Rattle.query_senses.specs.Calls.{called}
-use Rattle.query_readings.specs.Reading.{chain, column_reading, formed, formed_of_one, operations, plain}
+use Rattle.query_readings.specs.Reading.{as_pattern, chain, column_reading, formed, formed_of_one, operations, plain}
 use Rattle.query_forms.specs.Senses.{valued}
 
 abbrev pub list_of : Option Reading → List Reading
@@ -47,7 +47,7 @@ abbrev pub joined : List (List Reading) → List Reading
 joined [] = []
 joined (ps ∷ more) = ps ++ joined more
 
-abbrev pub rest : Form → List Reading → Rest
+abbrev pub rest : Form → List Reading → PredicateRest
 rest f parts = record { form = f; parts = parts }
 
 abbrev pub part : Form → Reading → Part
@@ -60,9 +60,9 @@ args_or_nothing (Some given) = given
 module _ (scope : Scope) where
   -- `*`, or arguments
   abbrev pub args_step : ArgsLevel → Given
-  args_step (Args-F.Star place) = record { mark = Star; parts = [] }
+  args_step (Args-F.Star place) = record { quantifier = Star; parts = [] }
   args_step (Args-F.Listed place distinct first more) =
-      record { mark = mark_of distinct; parts = first ∷ more }
+      record { quantifier = quantifier_of distinct; parts = first ∷ more }
 
   abbrev pub call_step : CallLevel → Reading
   call_step (Call-F.Cast place word inner to) = cast_reading scope place inner to
@@ -73,12 +73,12 @@ module _ (scope : Scope) where
   not_step (Not-F.Pred pred) = pred
 
   -- what stands behind a sum
-  abbrev pub rest_step : PredRestLevel → Rest
+  abbrev pub rest_step : PredRestLevel → PredicateRest
   rest_step (PredRest-F.Compare place rel right) = rest (form.Compare (rel_of rel)) (right ∷ [])
   rest_step (PredRest-F.Between place negated low high) = rest (form.Between negated) (low ∷ high ∷ [])
   rest_step (PredRest-F.In place negated first more) = rest (form.In negated) (first ∷ more)
   rest_step (PredRest-F.Like place negated pattern) =
-      rest (like_form negated pattern.face) (pattern ∷ [])
+      rest (like_form negated pattern.face) (as_pattern pattern ∷ [])
   rest_step (PredRest-F.IsNull place negated) = rest (form.IsNull negated) []
 
   abbrev pub primary_step : PrimaryLevel → Reading
@@ -110,7 +110,7 @@ module _ (scope : Scope) where
   abbrev pub expr_step : ExprLevel → Reading
   expr_step node = chain scope node.place form.Or node.first node.more
 
-  abbrev pub pred_with : Option Rest → ℕ → Reading → Reading
+  abbrev pub pred_with : Option PredicateRest → ℕ → Reading → Reading
   pred_with None place sum = sum
   pred_with (Some r) place sum = pred_reading scope place sum r
 
@@ -134,78 +134,78 @@ module _ (scope : Scope) where
 
   abbrev pub given_of : Args → Given
   given_of =
-      fold-Args Given Reading Reading Rest Reading Reading Reading Reading Reading Reading Reading Part Reading Part (List Reading)
+      fold-Args Given Reading Reading PredicateRest Reading Reading Reading Reading Reading Reading Reading Part Reading Part (List Reading)
       args_step call_step not_step rest_step primary_step unary_step and_step case_step expr_step pred_step prod_step prod_more_step sum_step sum_more_step when_step
 
   abbrev pub reading_of_call : Call → Reading
   reading_of_call =
-      fold-Call Given Reading Reading Rest Reading Reading Reading Reading Reading Reading Reading Part Reading Part (List Reading)
+      fold-Call Given Reading Reading PredicateRest Reading Reading Reading Reading Reading Reading Reading Part Reading Part (List Reading)
       args_step call_step not_step rest_step primary_step unary_step and_step case_step expr_step pred_step prod_step prod_more_step sum_step sum_more_step when_step
 
   abbrev pub reading_of_not : Not → Reading
   reading_of_not =
-      fold-Not Given Reading Reading Rest Reading Reading Reading Reading Reading Reading Reading Part Reading Part (List Reading)
+      fold-Not Given Reading Reading PredicateRest Reading Reading Reading Reading Reading Reading Reading Part Reading Part (List Reading)
       args_step call_step not_step rest_step primary_step unary_step and_step case_step expr_step pred_step prod_step prod_more_step sum_step sum_more_step when_step
 
-  abbrev pub rest_of : PredRest → Rest
+  abbrev pub rest_of : PredRest → PredicateRest
   rest_of =
-      fold-PredRest Given Reading Reading Rest Reading Reading Reading Reading Reading Reading Reading Part Reading Part (List Reading)
+      fold-PredRest Given Reading Reading PredicateRest Reading Reading Reading Reading Reading Reading Reading Part Reading Part (List Reading)
       args_step call_step not_step rest_step primary_step unary_step and_step case_step expr_step pred_step prod_step prod_more_step sum_step sum_more_step when_step
 
   abbrev pub reading_of_primary : Primary → Reading
   reading_of_primary =
-      fold-Primary Given Reading Reading Rest Reading Reading Reading Reading Reading Reading Reading Part Reading Part (List Reading)
+      fold-Primary Given Reading Reading PredicateRest Reading Reading Reading Reading Reading Reading Reading Part Reading Part (List Reading)
       args_step call_step not_step rest_step primary_step unary_step and_step case_step expr_step pred_step prod_step prod_more_step sum_step sum_more_step when_step
 
   abbrev pub reading_of_unary : Unary → Reading
   reading_of_unary =
-      fold-Unary Given Reading Reading Rest Reading Reading Reading Reading Reading Reading Reading Part Reading Part (List Reading)
+      fold-Unary Given Reading Reading PredicateRest Reading Reading Reading Reading Reading Reading Reading Part Reading Part (List Reading)
       args_step call_step not_step rest_step primary_step unary_step and_step case_step expr_step pred_step prod_step prod_more_step sum_step sum_more_step when_step
 
   abbrev pub reading_of_and : And → Reading
   reading_of_and =
-      fold-And Given Reading Reading Rest Reading Reading Reading Reading Reading Reading Reading Part Reading Part (List Reading)
+      fold-And Given Reading Reading PredicateRest Reading Reading Reading Reading Reading Reading Reading Part Reading Part (List Reading)
       args_step call_step not_step rest_step primary_step unary_step and_step case_step expr_step pred_step prod_step prod_more_step sum_step sum_more_step when_step
 
   abbrev pub reading_of_case : Case → Reading
   reading_of_case =
-      fold-Case Given Reading Reading Rest Reading Reading Reading Reading Reading Reading Reading Part Reading Part (List Reading)
+      fold-Case Given Reading Reading PredicateRest Reading Reading Reading Reading Reading Reading Reading Part Reading Part (List Reading)
       args_step call_step not_step rest_step primary_step unary_step and_step case_step expr_step pred_step prod_step prod_more_step sum_step sum_more_step when_step
 
   -- what an expression is in a scope
   abbrev pub reading : Expr → Reading
   reading =
-      fold-Expr Given Reading Reading Rest Reading Reading Reading Reading Reading Reading Reading Part Reading Part (List Reading)
+      fold-Expr Given Reading Reading PredicateRest Reading Reading Reading Reading Reading Reading Reading Part Reading Part (List Reading)
       args_step call_step not_step rest_step primary_step unary_step and_step case_step expr_step pred_step prod_step prod_more_step sum_step sum_more_step when_step
 
   abbrev pub reading_of_pred : Pred → Reading
   reading_of_pred =
-      fold-Pred Given Reading Reading Rest Reading Reading Reading Reading Reading Reading Reading Part Reading Part (List Reading)
+      fold-Pred Given Reading Reading PredicateRest Reading Reading Reading Reading Reading Reading Reading Part Reading Part (List Reading)
       args_step call_step not_step rest_step primary_step unary_step and_step case_step expr_step pred_step prod_step prod_more_step sum_step sum_more_step when_step
 
   abbrev pub reading_of_prod : Prod → Reading
   reading_of_prod =
-      fold-Prod Given Reading Reading Rest Reading Reading Reading Reading Reading Reading Reading Part Reading Part (List Reading)
+      fold-Prod Given Reading Reading PredicateRest Reading Reading Reading Reading Reading Reading Reading Part Reading Part (List Reading)
       args_step call_step not_step rest_step primary_step unary_step and_step case_step expr_step pred_step prod_step prod_more_step sum_step sum_more_step when_step
 
   abbrev pub part_of_prod : ProdMore → Part
   part_of_prod =
-      fold-ProdMore Given Reading Reading Rest Reading Reading Reading Reading Reading Reading Reading Part Reading Part (List Reading)
+      fold-ProdMore Given Reading Reading PredicateRest Reading Reading Reading Reading Reading Reading Reading Part Reading Part (List Reading)
       args_step call_step not_step rest_step primary_step unary_step and_step case_step expr_step pred_step prod_step prod_more_step sum_step sum_more_step when_step
 
   abbrev pub reading_of_sum : Sum → Reading
   reading_of_sum =
-      fold-Sum Given Reading Reading Rest Reading Reading Reading Reading Reading Reading Reading Part Reading Part (List Reading)
+      fold-Sum Given Reading Reading PredicateRest Reading Reading Reading Reading Reading Reading Reading Part Reading Part (List Reading)
       args_step call_step not_step rest_step primary_step unary_step and_step case_step expr_step pred_step prod_step prod_more_step sum_step sum_more_step when_step
 
   abbrev pub part_of_sum : SumMore → Part
   part_of_sum =
-      fold-SumMore Given Reading Reading Rest Reading Reading Reading Reading Reading Reading Reading Part Reading Part (List Reading)
+      fold-SumMore Given Reading Reading PredicateRest Reading Reading Reading Reading Reading Reading Reading Part Reading Part (List Reading)
       args_step call_step not_step rest_step primary_step unary_step and_step case_step expr_step pred_step prod_step prod_more_step sum_step sum_more_step when_step
 
   abbrev pub parts_of_when : When → List Reading
   parts_of_when =
-      fold-When Given Reading Reading Rest Reading Reading Reading Reading Reading Reading Reading Part Reading Part (List Reading)
+      fold-When Given Reading Reading PredicateRest Reading Reading Reading Reading Reading Reading Reading Part Reading Part (List Reading)
       args_step call_step not_step rest_step primary_step unary_step and_step case_step expr_step pred_step prod_step prod_more_step sum_step sum_more_step when_step
 
   -- for private clauses: the parts of a CASE

@@ -4,7 +4,7 @@ ghost use Rattle.std.specs.Prelude.{◌≡◌, IfOk};
 ghost use Rattle.query_senses.specs.Calls as spec;
 
 use event_value::{AggKind, Memory, Seq};
-use query_forms::{Form, Rule};
+use query_forms::{Cause, Form};
 use query_readings::{
     DateOperation, Function, Reading, Scope, aggregate, date_form, formed, function_of,
     refused_reading, row_count, time_reading,
@@ -14,7 +14,7 @@ use std::alloc::Global;
 
 /// What stands before the arguments of a call, or in their place.
 #[derive(Clone, Copy)]
-pub enum Mark {
+pub enum Quantifier {
     /// Nothing.
     Plain,
     /// `*` in the place of arguments.
@@ -26,29 +26,29 @@ pub enum Mark {
 /// The arguments of a call.
 #[derive(Drop)]
 pub struct Given {
-    pub mark: Mark,
+    pub quantifier: Quantifier,
     pub parts: Seq<Reading>,
 }
 
 fn unsupported(alloc: Global, place: u32) -> Result<Reading, Memory>
     ensures { IfOk result (λ reading. reading ≡ spec.unsupported place) }
 {
-    refused_reading(alloc, place, Rule::Unsupported)
+    refused_reading(alloc, place, Cause::Unsupported)
 }
 
 fn count_with(
     alloc: Global,
     scope: &Scope,
     place: u32,
-    mark: Mark,
+    quantifier: Quantifier,
     parts: &[Reading],
 ) -> Result<Reading, Memory>
-    ensures { IfOk result (λ reading. reading ≡ spec.count_with scope.now place mark parts.now) }
+    ensures { IfOk result (λ reading. reading ≡ spec.count_with scope.now place quantifier parts.now) }
 {
-    match mark {
-        Mark::Plain => aggregate(alloc, scope, place, AggKind::Count, parts),
-        Mark::Star => row_count(alloc, scope, place),
-        Mark::Distinct => aggregate(alloc, scope, place, AggKind::CountDistinct, parts),
+    match quantifier {
+        Quantifier::Plain => aggregate(alloc, scope, place, AggKind::Count, parts),
+        Quantifier::Star => row_count(alloc, scope, place),
+        Quantifier::Distinct => aggregate(alloc, scope, place, AggKind::CountDistinct, parts),
     }
 }
 
@@ -57,18 +57,18 @@ fn aggregate_with(
     scope: &Scope,
     place: u32,
     kind: AggKind,
-    mark: Mark,
+    quantifier: Quantifier,
     parts: &[Reading],
 ) -> Result<Reading, Memory>
     ensures { IfOk result (λ reading.
-        reading ≡ spec.aggregate_with scope.now place kind mark parts.now) }
+        reading ≡ spec.aggregate_with scope.now place kind quantifier parts.now) }
 {
     match kind {
-        AggKind::Count => count_with(alloc, scope, place, mark, parts),
-        _ => match mark {
-            Mark::Plain => aggregate(alloc, scope, place, kind, parts),
-            Mark::Star => unsupported(alloc, place),
-            Mark::Distinct => unsupported(alloc, place),
+        AggKind::Count => count_with(alloc, scope, place, quantifier, parts),
+        _ => match quantifier {
+            Quantifier::Plain => aggregate(alloc, scope, place, kind, parts),
+            Quantifier::Star => unsupported(alloc, place),
+            Quantifier::Distinct => unsupported(alloc, place),
         },
     }
 }
@@ -115,21 +115,21 @@ fn function_with_parts(
     }
 }
 
-fn function_with_mark(
+fn function_with_quantifier(
     alloc: Global,
     scope: &Scope,
     place: u32,
     function: Function,
-    mark: Mark,
+    quantifier: Quantifier,
     parts: &[Reading],
 ) -> Result<Reading, Memory>
     ensures { IfOk result (λ reading.
-        reading ≡ spec.function_with_mark scope.now place function mark parts.now) }
+        reading ≡ spec.function_with_quantifier scope.now place function quantifier parts.now) }
 {
-    match mark {
-        Mark::Plain => function_with_parts(alloc, scope, place, function, parts),
-        Mark::Star => unsupported(alloc, place),
-        Mark::Distinct => unsupported(alloc, place),
+    match quantifier {
+        Quantifier::Plain => function_with_parts(alloc, scope, place, function, parts),
+        Quantifier::Star => unsupported(alloc, place),
+        Quantifier::Distinct => unsupported(alloc, place),
     }
 }
 
@@ -147,14 +147,21 @@ fn called_function(
     match function {
         Function::Window => unsupported(alloc, place),
         Function::Aggregate(kind) => {
-            aggregate_with(alloc, scope, place, kind, given.mark, given.parts.items())
+            aggregate_with(
+                alloc,
+                scope,
+                place,
+                kind,
+                given.quantifier,
+                given.parts.items(),
+            )
         }
-        _ => function_with_mark(
+        _ => function_with_quantifier(
             alloc,
             scope,
             place,
             function,
-            given.mark,
+            given.quantifier,
             given.parts.items(),
         ),
     }

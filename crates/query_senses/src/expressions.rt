@@ -1,16 +1,20 @@
-//! `read_expr`, level by level down the tree of an expression.
+//! `read_expr`: an expression that isn't too large, level by level down its tree.
 
-ghost use Rattle.std.specs.Prelude.{◌≡◌, ◌++◌, IfOk, OnOk};
+ghost use Rattle.std.specs.Prelude.{◌≡◌, ◌≤◌, ◌++◌, IfOk, OnOk};
+ghost use Rattle.expression_size.specs.Sizes.{max_nodes, size};
 ghost use Rattle.query_senses.specs.Readings as spec;
 
-use crate::calls::{Given, Mark, called};
-use crate::parts::{cast_reading, mark_of, nested, nothing_given, number_sense, pred_reading};
+use crate::calls::{Given, Quantifier, called};
+use crate::parts::{
+    cast_reading, nested, nothing_given, number_sense, pred_reading, quantifier_of,
+};
 use event_value::{Copies, Kind, Memory, Seq, Value};
+use expression_size::{MAX_NODES, size_of_expr};
 use query_forms::{Form, Sense, Valued, prod_form, rel_of, sum_form};
 use query_plan::{Expr, Op};
 use query_readings::{
-    Face, Part, Reading, Rest, Scope, chain, column_reading, formed, formed_of_one, like_form,
-    operations, plain,
+    Face, Part, PredicateRest, Reading, Scope, as_pattern, chain, column_reading, formed,
+    formed_of_one, like_form, operations, plain,
 };
 use query_tree as tree;
 use std::alloc::Global;
@@ -18,9 +22,20 @@ use std::alloc::Global;
 /// What an expression is over the rows and over the groups of a scope.
 ///
 /// # Errors
-/// `Memory` where there was none.
-#[cycle(reading)]
+/// `Memory` where there was none, or where the plan of the expression would have more than
+/// `MAX_NODES` nodes: that is asked before anything of it is planned.
 pub fn read_expr(alloc: Global, scope: &Scope, expr: &tree::Expr) -> Result<Reading, Memory>
+    ensures reading { IfOk result (λ reading. reading ≡ spec.reading scope.now expr.now) }
+    ensures bounded { IfOk result (λ reading. size expr.now ≤ max_nodes) }
+{
+    if size_of_expr(expr) > MAX_NODES {
+        return Err(Memory);
+    }
+    read_or(alloc, scope, expr)
+}
+
+#[cycle(reading)]
+fn read_or(alloc: Global, scope: &Scope, expr: &tree::Expr) -> Result<Reading, Memory>
     ensures { IfOk result (λ reading. reading ≡ spec.reading scope.now expr.now) }
 {
     let mut more = Seq::empty(alloc);
@@ -72,14 +87,14 @@ fn read_pred(alloc: Global, scope: &Scope, pred: &tree::Pred) -> Result<Reading,
 }
 
 #[cycle(reading)]
-fn read_rest(alloc: Global, scope: &Scope, rest: &tree::PredRest) -> Result<Rest, Memory>
+fn read_rest(alloc: Global, scope: &Scope, rest: &tree::PredRest) -> Result<PredicateRest, Memory>
     ensures { IfOk result (λ read. read ≡ spec.rest_of scope.now rest.now) }
 {
     let mut parts = Seq::empty(alloc);
     match rest {
         tree::PredRest::Compare(_, rel, right) => {
             parts.push(read_sum(alloc, scope, right)?)?;
-            Ok(Rest {
+            Ok(PredicateRest {
                 form: Form::Compare(rel_of(*rel)),
                 parts,
             })
@@ -87,17 +102,17 @@ fn read_rest(alloc: Global, scope: &Scope, rest: &tree::PredRest) -> Result<Rest
         tree::PredRest::Between(_, negated, low, high) => {
             parts.push(read_sum(alloc, scope, low)?)?;
             parts.push(read_sum(alloc, scope, high)?)?;
-            Ok(Rest {
+            Ok(PredicateRest {
                 form: Form::Between(*negated),
                 parts,
             })
         }
         tree::PredRest::In(_, negated, first, more) => {
-            parts.push(read_expr(alloc, scope, first.get())?)?;
+            parts.push(read_or(alloc, scope, first.get())?)?;
             for item in more.as_slice() {
-                parts.push(read_expr(alloc, scope, item)?)?;
+                parts.push(read_or(alloc, scope, item)?)?;
             }
-            Ok(Rest {
+            Ok(PredicateRest {
                 form: Form::In(*negated),
                 parts,
             })
@@ -105,10 +120,10 @@ fn read_rest(alloc: Global, scope: &Scope, rest: &tree::PredRest) -> Result<Rest
         tree::PredRest::Like(_, negated, pattern) => {
             let pattern = read_sum(alloc, scope, pattern)?;
             let form = like_form(*negated, &pattern.face);
-            parts.push(pattern)?;
-            Ok(Rest { form, parts })
+            parts.push(as_pattern(alloc, pattern)?)?;
+            Ok(PredicateRest { form, parts })
         }
-        tree::PredRest::IsNull(_, negated) => Ok(Rest {
+        tree::PredRest::IsNull(_, negated) => Ok(PredicateRest {
             form: Form::IsNull(*negated),
             parts,
         }),
@@ -184,7 +199,7 @@ fn read_primary(alloc: Global, scope: &Scope, primary: &tree::Primary) -> Result
         tree::Primary::Call(call) => read_call(alloc, scope, call),
         tree::Primary::Case(case) => read_case(alloc, scope, case),
         tree::Primary::Nested(place, inner) => {
-            let inner = read_expr(alloc, scope, inner.get())?;
+            let inner = read_or(alloc, scope, inner.get())?;
             Ok(nested(*place, inner))
         }
     }
@@ -196,7 +211,7 @@ fn read_call(alloc: Global, scope: &Scope, call: &tree::Call) -> Result<Reading,
 {
     match call {
         tree::Call::Cast(place, _, inner, to) => {
-            let inner = read_expr(alloc, scope, inner.get())?;
+            let inner = read_or(alloc, scope, inner.get())?;
             cast_reading(alloc, scope, *place, inner, to)
         }
         tree::Call::Function(place, path, None) => {
@@ -216,16 +231,16 @@ fn read_args(alloc: Global, scope: &Scope, args: &tree::Args) -> Result<Given, M
     let mut parts = Seq::empty(alloc);
     match args {
         tree::Args::Star(_) => Ok(Given {
-            mark: Mark::Star,
+            quantifier: Quantifier::Star,
             parts,
         }),
         tree::Args::Listed(_, distinct, first, more) => {
-            parts.push(read_expr(alloc, scope, first.get())?)?;
+            parts.push(read_or(alloc, scope, first.get())?)?;
             for arg in more.as_slice() {
-                parts.push(read_expr(alloc, scope, arg)?)?;
+                parts.push(read_or(alloc, scope, arg)?)?;
             }
             Ok(Given {
-                mark: mark_of(*distinct),
+                quantifier: quantifier_of(*distinct),
                 parts,
             })
         }
@@ -255,7 +270,7 @@ fn push_subject(
 {
     match &case.subject {
         None => Ok(()),
-        Some(subject) => parts.push(read_expr(alloc, scope, subject.get())?),
+        Some(subject) => parts.push(read_or(alloc, scope, subject.get())?),
     }
 }
 
@@ -270,7 +285,7 @@ fn push_otherwise(
 {
     match &case.otherwise {
         None => Ok(()),
-        Some(otherwise) => parts.push(read_expr(alloc, scope, otherwise.get())?),
+        Some(otherwise) => parts.push(read_or(alloc, scope, otherwise.get())?),
     }
 }
 
@@ -299,6 +314,6 @@ fn push_when(
 ) -> Result<(), Memory>
     ensures { OnOk result (parts.new ≡ parts.old ++ spec.parts_of_when scope.now when.now) }
 {
-    parts.push(read_expr(alloc, scope, when.when.get())?)?;
-    parts.push(read_expr(alloc, scope, when.then.get())?)
+    parts.push(read_or(alloc, scope, when.when.get())?)?;
+    parts.push(read_or(alloc, scope, when.then.get())?)
 }

@@ -3,11 +3,13 @@
 ghost use Rattle.std.specs.Prelude.{◌≡◌, IfOk};
 ghost use Rattle.query_senses.specs.Parts as spec;
 
-use crate::calls::{Given, Mark};
+use crate::calls::{Given, Quantifier};
 use event_value::{Kind, Memory, Seq, Value};
-use query_forms::{Form, Rule, Sense, Valued, refuse};
+use query_forms::{Cause, Form, Sense, Valued, refuse};
 use query_plan::Expr;
-use query_readings::{Face, Outcome, Reading, Rest, Scope, formed, formed_of_one, refused_reading};
+use query_readings::{
+    Face, Outcome, PredicateRest, Reading, Scope, formed, formed_of_one, refused_reading,
+};
 use query_tree::{Number, TypeName};
 use std::alloc::Global;
 use tick_time::is_name;
@@ -49,19 +51,19 @@ pub fn nothing_given(alloc: Global) -> Given
     ensures { result ≡ spec.nothing_given }
 {
     Given {
-        mark: Mark::Plain,
+        quantifier: Quantifier::Plain,
         parts: Seq::empty(alloc),
     }
 }
 
 /// What stands before arguments, given whether DISTINCT does.
-pub fn mark_of(distinct: bool) -> Mark
-    ensures { result ≡ spec.mark_of distinct }
+pub fn quantifier_of(distinct: bool) -> Quantifier
+    ensures { result ≡ spec.quantifier_of distinct }
 {
     if distinct {
-        Mark::Distinct
+        Quantifier::Distinct
     } else {
-        Mark::Plain
+        Quantifier::Plain
     }
 }
 
@@ -114,7 +116,7 @@ pub fn cast_reading(
         None => {
             let mut parts = Seq::empty(alloc);
             parts.push(inner)?;
-            parts.push(refused_reading(alloc, to.place, Rule::Unsupported)?)?;
+            parts.push(refused_reading(alloc, to.place, Cause::Unsupported)?)?;
             formed(alloc, scope, place, Form::Unfit, parts.items())
         }
     }
@@ -129,7 +131,7 @@ fn place_above_limit(parts: &[Reading]) -> Option<u32>
     }
 }
 
-fn excess_of(rest: &Rest) -> Option<u32>
+fn excess_of(rest: &PredicateRest) -> Option<u32>
     ensures { result ≡ spec.excess_of rest.now }
 {
     match rest.form {
@@ -142,7 +144,7 @@ fn limited(alloc: Global, place: u32, outcome: Outcome) -> Result<Outcome, Memor
     ensures { IfOk result (λ limited. limited ≡ spec.limited place outcome) }
 {
     match outcome {
-        Ok(_) => refuse(alloc, place, Rule::TooMany),
+        Ok(_) => refuse(alloc, place, Cause::TooMany),
         Err(faults) => Ok(Err(faults)),
     }
 }
@@ -172,7 +174,7 @@ pub fn pred_reading(
     scope: &Scope,
     place: u32,
     sum: Reading,
-    rest: &Rest,
+    rest: &PredicateRest,
 ) -> Result<Reading, Memory>
     ensures { IfOk result (λ reading. reading ≡ spec.pred_reading scope.now place sum rest.now) }
 {

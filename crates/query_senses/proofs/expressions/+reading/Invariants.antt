@@ -2,8 +2,8 @@ use Rattle.std.proofs.Common.{◌≡◌, ◌++◌, map, take, drop}
 use Rattle.query_senses.specs.Readings as spec
 use Rattle.query_senses.proofs.expressions.+reading.Given as goal
 
-abbrev pub invariant-read_expr-loop-part : goal.invariant-read_expr-loop-part
-invariant-read_expr-loop-part l =
+abbrev pub invariant-read_or-loop-part : goal.invariant-read_or-loop-part
+invariant-read_or-loop-part l =
     l.more ≡ map (spec.reading_of_and l.scope) (take l.part-index l.part-items)
 
 abbrev pub invariant-read_and-loop-part : goal.invariant-read_and-loop-part
