@@ -3,7 +3,7 @@ use Rattle.std.specs.Prelude.{ℕ, Ok, Err}
 use Rattle.query_plan.specs.declared.expr.Cond.{Cond}
 use Rattle.query_plan.specs.declared.plan.Step.TheVariants.{Filter}
 use Rattle.query_tree.specs.declared.expr.Expr.{Expr, out-Expr}
-use Rattle.query_forms.specs.declared.fault.Rule.TheVariants as rule
+use Rattle.query_forms.specs.declared.fault.Cause.TheVariants as cause
 use Rattle.query_readings.specs.declared.reading.Side.{Side}
 use Rattle.query_readings.specs.declared.scope.Scope.{Scope}
 use Rattle.query_forms.specs.declared.sense.Sense.{Sense}
@@ -16,7 +16,7 @@ use Rattle.query_sources.specs.declared.draft.Draft.{Draft}
 use Rattle.query_sources.specs.Drafts.{noted, with_step}
 
 abbrev pub condition_in : ℕ → Sense → Checked Cond
-condition_in place (Value v) = refused place rule.Kind
+condition_in place (Value v) = refused place cause.Kind
 condition_in place (Condition c) = Ok c
 
 abbrev pub condition_of : ℕ → Outcome → Checked Cond
@@ -24,7 +24,7 @@ condition_of place outcome = and_then outcome (condition_in place)
 
 abbrev pub value_in : ℕ → Sense → Checked Valued
 value_in place (Value v) = Ok v
-value_in place (Condition c) = refused place rule.Kind
+value_in place (Condition c) = refused place cause.Kind
 
 abbrev pub value_of : ℕ → Outcome → Checked Valued
 value_of place outcome = and_then outcome (value_in place)

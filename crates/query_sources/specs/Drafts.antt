@@ -2,8 +2,8 @@
 use Rattle.std.specs.Prelude.{ℕ, ◌+◌, nat_le, nat_lt, ◌&&◌, if◌then◌else◌, List, [], ◌∷◌, ◌++◌, length}
 use Rattle.query_plan.specs.declared.plan.Step.{Step}
 use Rattle.query_forms.specs.declared.fault.Fault.{Fault}
-use Rattle.query_forms.specs.declared.fault.Rule.{Rule}
-use Rattle.query_forms.specs.declared.fault.Rule.TheVariants as rule
+use Rattle.query_forms.specs.declared.fault.Cause.{Cause}
+use Rattle.query_forms.specs.declared.fault.Cause.TheVariants as cause
 use Rattle.query_forms.specs.Faults.{fault_at}
 use Rattle.query_sources.specs.declared.draft.Draft.{Draft}
 use Rattle.query_sources.specs.declared.draft.Mention.{Mention}
@@ -12,7 +12,7 @@ use Rattle.query_sources.specs.declared.draft.Mention.{Mention}
 abbrev pub noted : List Fault → Draft → Draft
 noted faults d = record d { faults = d.faults ++ faults }
 
-abbrev pub noted_at : ℕ → Rule → Draft → Draft
+abbrev pub noted_at : ℕ → Cause → Draft → Draft
 noted_at place r d = record d { faults = d.faults ++ fault_at place r ∷ [] }
 
 abbrev pub mentioned : Mention → Draft → Draft
@@ -33,5 +33,5 @@ with_count n d = record d { count = n }
 abbrev pub asked : ℕ → ℕ → Draft → Draft
 asked place n d =
     if nat_le d.count max_steps && nat_lt max_steps (d.count + n)
-    then noted_at place rule.TooMany (with_count (d.count + n) d)
+    then noted_at place cause.TooMany (with_count (d.count + n) d)
     else with_count (d.count + n) d

@@ -12,7 +12,7 @@ use Rattle.query_tree.specs.declared.source.Join.{Join}
 use Rattle.query_tree.specs.declared.source.Side.{Side}
 use Rattle.query_tree.specs.declared.source.Side.TheVariants.{Inner, Left}
 use Rattle.query_tree.specs.declared.source.Source.{Source}
-use Rattle.query_forms.specs.declared.fault.Rule.TheVariants as rule
+use Rattle.query_forms.specs.declared.fault.Cause.TheVariants as cause
 use Rattle.query_readings.specs.declared.reading.Reading.{Reading}
 use Rattle.query_readings.specs.declared.scope.Scope.{Scope}
 use Rattle.query_readings.specs.declared.scope.ScopeSource.{ScopeSource}
@@ -70,13 +70,13 @@ bound_joined b scope right j d =
 
 -- the second one of a select isn't built
 abbrev pub second_noted : Bool → ℕ → Draft → Draft
-second_noted second place d = if second then noted_at place rule.Unsupported d else d
+second_noted second place d = if second then noted_at place cause.Unsupported d else d
 
 abbrev pub stream_joined_by : Option Bound → Bool → Scope → ℕ → Join → Draft → Draft
 stream_joined_by None second scope right j d =
-    noted_at j.join_place rule.Bound (second_noted second j.place d)
+    noted_at j.join_place cause.Bound (second_noted second j.place d)
 stream_joined_by (Some b) second scope right j d =
-    if second then noted_at j.place rule.Unsupported d else bound_joined b scope right j d
+    if second then noted_at j.place cause.Unsupported d else bound_joined b scope right j d
 
 unfoldable pub stream_joined : List ℕ → Bool → Scope → ℕ → Join → Draft → Draft
 stream_joined left second scope right j d =
@@ -95,7 +95,7 @@ max_references = 4
 -- the first one above the limit is refused
 unfoldable pub reference_joined : ℕ → Scope → ℕ → Join → Draft → Draft
 reference_joined before scope number j d =
-    if before == max_references then noted_at j.place rule.TooMany d
+    if before == max_references then noted_at j.place cause.TooMany d
     else with_lookup number (is_outer j.side) (condition_on scope j.on) d
 
 -- ---- all joins of a select

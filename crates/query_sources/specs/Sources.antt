@@ -6,7 +6,7 @@ use Rattle.query_tree.specs.declared.source.Alias.{Alias}
 use Rattle.query_tree.specs.declared.source.Join.{Join}
 use Rattle.query_tree.specs.declared.source.Source.{Source}
 use Rattle.query_tree.specs.declared.source.Stamp.{Stamp}
-use Rattle.query_forms.specs.declared.fault.Rule.TheVariants as rule
+use Rattle.query_forms.specs.declared.fault.Cause.TheVariants as cause
 use Rattle.query_readings.specs.declared.scope.Scope.{Scope}
 use Rattle.query_readings.specs.declared.scope.ScopeColumn.{ScopeColumn}
 use Rattle.query_readings.specs.declared.scope.ScopeSource.{ScopeSource}
@@ -79,7 +79,7 @@ scope_of_tail known t =
 
 abbrev pub refused_stamp_noted : Option Stamp → Draft → Draft
 refused_stamp_noted None d = d
-refused_stamp_noted (Some s) d = noted_at s.place rule.Unsupported d
+refused_stamp_noted (Some s) d = noted_at s.place cause.Unsupported d
 
 -- a TIMESTAMP BY names the columns of its stream alone, and no time
 abbrev pub stamp_scope : KnownSource → Source → Scope
@@ -99,7 +99,7 @@ stream_mentioned known stream s d =
 
 -- a reference that isn't joined is refused
 abbrev pub reference_noted : Bool → ℕ → Draft → Draft
-reference_noted joined place d = if joined then d else noted_at place rule.Unsupported d
+reference_noted joined place d = if joined then d else noted_at place cause.Unsupported d
 
 abbrev pub known_mentioned_as : Origin → KnownSource → Bool → Source → Draft → Draft
 known_mentioned_as (origin.Stream stream) known joined s d = stream_mentioned known stream s d
@@ -111,7 +111,7 @@ abbrev pub known_mentioned : KnownSource → Bool → Source → Draft → Draft
 known_mentioned known joined s d = known_mentioned_as known.origin known joined s d
 
 abbrev pub source_found : Option KnownSource → Bool → Source → Draft → Draft
-source_found None joined s d = noted_at s.name.place rule.UnknownSource d
+source_found None joined s d = noted_at s.name.place cause.UnknownSource d
 source_found (Some known) joined s d = known_mentioned known joined s d
 
 abbrev pub source_mentioned : List KnownSource → Bool → Source → Draft → Draft

@@ -10,7 +10,7 @@ use Rattle.query_tree.specs.declared.expr.Expr as tree
 use Rattle.query_readings.specs.declared.columns.Finding.{Finding}
 use Rattle.query_readings.specs.declared.columns.Finding.TheVariants as finding
 use Rattle.query_forms.specs.declared.fault.Fault.{Fault}
-use Rattle.query_forms.specs.declared.fault.Rule.TheVariants as rule
+use Rattle.query_forms.specs.declared.fault.Cause.TheVariants as cause
 use Rattle.query_readings.specs.declared.scope.Scope.{Scope}
 use Rattle.query_readings.specs.declared.scope.ScopeSource.{ScopeSource}
 use Rattle.query_forms.specs.declared.sense.Sense.{Sense}
@@ -28,8 +28,8 @@ use Rattle.query_sources.specs.declared.stamps.Columns.{Columns}
 use Rattle.query_sources.specs.Drafts.{noted}
 
 abbrev pub moment_in : ℕ → Sense → Checked Expr
-moment_in place (Value v) = if is_of kind.Moment v.kind then Ok v.expr else refused place rule.Kind
-moment_in place (Condition c) = refused place rule.Kind
+moment_in place (Value v) = if is_of kind.Moment v.kind then Ok v.expr else refused place cause.Kind
+moment_in place (Condition c) = refused place cause.Kind
 
 -- a moment, or what is refused
 abbrev pub moment_of : ℕ → Outcome → Checked Expr
@@ -107,5 +107,5 @@ differs_from_first (first ∷ ms) m =
 abbrev pub faults_of_mentions : List Mention → List Mention → List Fault
 faults_of_mentions all [] = []
 faults_of_mentions all (m ∷ ms) =
-    if differs_from_first all m then fault_at m.place rule.StampTwice ∷ faults_of_mentions all ms
+    if differs_from_first all m then fault_at m.place cause.StampTwice ∷ faults_of_mentions all ms
     else faults_of_mentions all ms

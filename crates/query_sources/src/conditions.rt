@@ -5,7 +5,7 @@ ghost use Rattle.query_sources.specs.Conditions as spec;
 
 use crate::draft::Draft;
 use event_value::Memory;
-use query_forms::{Checked, Rule, Sense, Valued, refuse};
+use query_forms::{Cause, Checked, Sense, Valued, refuse};
 use query_plan::{Cond, Step};
 use query_readings::{Outcome, Scope, Side, take_side};
 use query_senses::read_expr;
@@ -18,7 +18,7 @@ pub fn condition_of(alloc: Global, place: u32, outcome: Outcome) -> Result<Check
 {
     match outcome {
         Err(faults) => Ok(Err(faults)),
-        Ok(Sense::Value(_)) => refuse(alloc, place, Rule::Kind),
+        Ok(Sense::Value(_)) => refuse(alloc, place, Cause::Kind),
         Ok(Sense::Condition(condition)) => Ok(Ok(condition)),
     }
 }
@@ -29,7 +29,7 @@ pub fn value_of(alloc: Global, place: u32, outcome: Outcome) -> Result<Checked<V
 {
     match outcome {
         Err(faults) => Ok(Err(faults)),
-        Ok(Sense::Condition(_)) => refuse(alloc, place, Rule::Kind),
+        Ok(Sense::Condition(_)) => refuse(alloc, place, Cause::Kind),
         Ok(Sense::Value(value)) => Ok(Ok(value)),
     }
 }

@@ -4,7 +4,7 @@ ghost use Rattle.std.specs.Prelude.{◌≡◌, ◌++◌, ◌∷◌, [], IfOk, On
 ghost use Rattle.query_sources.specs.Drafts as spec;
 
 use event_value::{Memory, Seq};
-use query_forms::{Fault, Rule};
+use query_forms::{Cause, Fault};
 use query_plan::{Expr, Step};
 
 /// What a mention of a stream says of the time of its records.
@@ -46,10 +46,10 @@ pub struct Draft {
 
 impl Draft {
     /// Adds a fault at the end.
-    pub fn note(&mut self, place: u32, rule: Rule) -> Result<(), Memory>
-        ensures { OnOk result (self.new ≡ spec.noted_at place rule self.old) }
+    pub fn note(&mut self, place: u32, cause: Cause) -> Result<(), Memory>
+        ensures { OnOk result (self.new ≡ spec.noted_at place cause self.old) }
     {
-        self.faults.push(Fault { place, rule })
+        self.faults.push(Fault { place, cause })
     }
 
     /// Adds faults at the end.
@@ -80,7 +80,7 @@ impl Draft {
         };
         self.count = after;
         if before <= MAX_STEPS && MAX_STEPS < after {
-            return self.note(place, Rule::TooMany);
+            return self.note(place, Cause::TooMany);
         }
         Ok(())
     }

@@ -8,7 +8,7 @@ use crate::join_conditions::{condition_beside, condition_on, is_outer};
 use crate::known::{KnownSource, Origin, known_named};
 use crate::sources::{push_scope_source, qualifier, scope_of};
 use event_value::{Memory, Seq};
-use query_forms::{Checked, Rule};
+use query_forms::{Cause, Checked};
 use query_literals::{Bound, bound_of};
 use query_plan::{Cond, Step};
 use query_readings::Scope;
@@ -71,7 +71,7 @@ fn note_second(second: bool, place: u32, draft: &mut Draft) -> Result<(), Memory
     ensures { OnOk result (draft.new ≡ spec.second_noted second place draft.old) }
 {
     if second {
-        return draft.note(place, Rule::Unsupported);
+        return draft.note(place, Cause::Unsupported);
     }
     Ok(())
 }
@@ -91,11 +91,11 @@ fn join_stream_by(
     match bound {
         None => {
             note_second(second, join.place, draft)?;
-            draft.note(join.join_place, Rule::Bound)
+            draft.note(join.join_place, Cause::Bound)
         }
         Some(bound) => {
             if second {
-                return draft.note(join.place, Rule::Unsupported);
+                return draft.note(join.place, Cause::Unsupported);
             }
             join_bound(alloc, bound, scope, right, join, draft)
         }
@@ -153,7 +153,7 @@ fn join_reference(
         draft.new ≡ spec.reference_joined before scope.now reference join.now draft.old) }
 {
     if before == MAX_REFERENCES {
-        return draft.note(join.place, Rule::TooMany);
+        return draft.note(join.place, Cause::TooMany);
     }
     let checked = condition_on(alloc, scope, &join.on)?;
     go_on_with_lookup(reference, is_outer(&join.side), checked, draft)

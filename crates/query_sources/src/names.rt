@@ -5,7 +5,7 @@ ghost use Rattle.query_sources.specs.Names as spec;
 
 use crate::draft::Draft;
 use event_value::{Copies, Memory, Seq};
-use query_forms::Rule;
+use query_forms::Cause;
 use query_tree::Name;
 use std::alloc::Global;
 
@@ -25,7 +25,7 @@ fn note_repeat(before: &[Name], name: &Name, draft: &mut Draft) -> Result<(), Me
     ensures { OnOk result (draft.new ≡ spec.noted_repeat before.now name.now draft.old) }
 {
     if is_named(before, name.text.items()) {
-        return draft.note(name.place, Rule::NameTwice);
+        return draft.note(name.place, Cause::NameTwice);
     }
     Ok(())
 }

@@ -9,7 +9,7 @@ use crate::known::{KnownSource, Origin, ResultColumn, known_named};
 use crate::names::note_repeats;
 use crate::stamps::read_stamp;
 use event_value::{Copies, Memory, Seq};
-use query_forms::Rule;
+use query_forms::Cause;
 use query_readings::{Scope, ScopeColumn, ScopeSource};
 use query_tree::{Name, Source, Stamp, Tail};
 use std::alloc::Global;
@@ -130,7 +130,7 @@ fn refuse_stamp(stamp: &Option<Stamp>, draft: &mut Draft) -> Result<(), Memory>
 {
     match stamp {
         None => Ok(()),
-        Some(stamp) => draft.note(stamp.place, Rule::Unsupported),
+        Some(stamp) => draft.note(stamp.place, Cause::Unsupported),
     }
 }
 
@@ -180,7 +180,7 @@ fn mention_known(
         Origin::Definition => refuse_stamp(&source.stamp, draft),
         Origin::Reference(_) => {
             if !joined {
-                draft.note(source.name.place, Rule::Unsupported)?;
+                draft.note(source.name.place, Cause::Unsupported)?;
             }
             refuse_stamp(&source.stamp, draft)
         }
@@ -197,7 +197,7 @@ fn mention_source(
     ensures { OnOk result (draft.new ≡ spec.source_mentioned known.now joined source.now draft.old) }
 {
     match known_named(known, source.name.text.items()) {
-        None => draft.note(source.name.place, Rule::UnknownSource),
+        None => draft.note(source.name.place, Cause::UnknownSource),
         Some(found) => mention_known(alloc, found, joined, source, draft),
     }
 }

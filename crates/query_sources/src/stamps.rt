@@ -5,7 +5,7 @@ ghost use Rattle.query_sources.specs.Stamps as spec;
 
 use crate::draft::{Draft, Mention, Stamping};
 use event_value::{Kind, Memory, Seq};
-use query_forms::{Checked, Fault, Rule, Sense, is_of, refuse};
+use query_forms::{Cause, Checked, Fault, Sense, is_of, refuse};
 use query_plan::Expr;
 use query_readings::{Finding, Outcome, Scope, ScopeSource, finding_of, is_same_expr};
 use query_senses::read_expr;
@@ -24,12 +24,12 @@ fn moment_of(alloc: Global, place: u32, outcome: Outcome) -> Result<Checked<Expr
 {
     match outcome {
         Err(faults) => Ok(Err(faults)),
-        Ok(Sense::Condition(_)) => refuse(alloc, place, Rule::Kind),
+        Ok(Sense::Condition(_)) => refuse(alloc, place, Cause::Kind),
         Ok(Sense::Value(value)) => {
             if is_of(Kind::Moment, value.kind) {
                 return Ok(Ok(value.expr));
             }
-            refuse(alloc, place, Rule::Kind)
+            refuse(alloc, place, Cause::Kind)
         }
     }
 }
@@ -40,9 +40,9 @@ fn with_column(sources: &[ScopeSource], path: &Path, columns: &mut Columns) -> R
     match finding_of(sources, path) {
         Finding::Column(column, _) => columns.found.push(column),
         Finding::Undecided => Ok(()),
-        Finding::Missing(rule) => columns.faults.push(Fault {
+        Finding::Missing(cause) => columns.faults.push(Fault {
             place: path.place,
-            rule,
+            cause,
         }),
     }
 }
@@ -171,7 +171,7 @@ pub fn faults_of_mentions(alloc: Global, mentions: &[Mention]) -> Result<Seq<Fau
         if differs_from_first(mentions, mention) {
             faults.push(Fault {
                 place: mention.place,
-                rule: Rule::StampTwice,
+                cause: Cause::StampTwice,
             })?;
         }
     }

@@ -8,8 +8,8 @@ use Rattle.query_tree.specs.declared.select.Item.{Item}
 use Rattle.query_tree.specs.declared.select.SelectItems.{SelectItems}
 use Rattle.query_tree.specs.declared.select.SelectItems.TheVariants.{Star, Listed}
 use Rattle.query_tree.specs.declared.source.Alias.{Alias}
-use Rattle.query_forms.specs.declared.fault.Rule.{Rule}
-use Rattle.query_forms.specs.declared.fault.Rule.TheVariants as rule
+use Rattle.query_forms.specs.declared.fault.Cause.{Cause}
+use Rattle.query_forms.specs.declared.fault.Cause.TheVariants as cause
 use Rattle.query_readings.specs.declared.reading.Face.{Face}
 use Rattle.query_readings.specs.declared.reading.Face.TheVariants.{Word, Qualified, Literal, Other}
 use Rattle.query_readings.specs.declared.reading.Side.{Side}
@@ -67,7 +67,7 @@ abbrev pub with_items : Scope → Side → Picked → List Item → Picked
 with_items scope side p [] = p
 with_items scope side p (item ∷ more) = with_items scope side (with_item scope side p item) more
 
-abbrev pub with_fault_at : ℕ → Rule → Picked → Picked
+abbrev pub with_fault_at : ℕ → Cause → Picked → Picked
 with_fault_at place r p = record p { faults = p.faults ++ fault_at place r ∷ [] }
 
 -- how many items a select may have
@@ -76,7 +76,7 @@ max_items = 64
 
 abbrev pub with_excess_item : Option Item → Picked → Picked
 with_excess_item None p = p
-with_excess_item (Some item) p = with_fault_at item.place rule.TooMany p
+with_excess_item (Some item) p = with_fault_at item.place cause.TooMany p
 
 abbrev pub with_excess : List Item → Picked → Picked
 with_excess more p = with_excess_item (slice_get more (max_items - 1)) p
@@ -98,7 +98,7 @@ with_sources place p (s ∷ ss) = with_sources place (with_columns place p s.col
 
 abbrev pub with_side : Side → ℕ → Picked → Picked
 with_side Rows place p = p
-with_side Groups place p = with_fault_at place rule.NotGrouped p
+with_side Groups place p = with_fault_at place cause.NotGrouped p
 
 abbrev pub with_star : Scope → Side → ℕ → Picked → Picked
 with_star scope side place p = with_sources place (with_side side place p) scope.sources

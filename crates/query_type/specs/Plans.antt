@@ -12,8 +12,8 @@ use Rattle.query_tree.specs.declared.script.Script.{Script}
 use Rattle.query_tree.specs.declared.script.Stmt.{Stmt}
 use Rattle.query_tree.specs.declared.script.With.{With}
 use Rattle.query_forms.specs.declared.fault.Fault.{Fault}
-use Rattle.query_forms.specs.declared.fault.Rule.{Rule}
-use Rattle.query_forms.specs.declared.fault.Rule.TheVariants as rule
+use Rattle.query_forms.specs.declared.fault.Cause.{Cause}
+use Rattle.query_forms.specs.declared.fault.Cause.TheVariants as cause
 use Rattle.query_forms.specs.Faults.{least}
 use Rattle.query_sources.specs.declared.draft.Draft.{Draft}
 use Rattle.query_sources.specs.declared.draft.Mention.{Mention}
@@ -65,7 +65,7 @@ opened s i =
 abbrev pub with_draft : Draft → Progress → Progress
 with_draft d p = record p { draft = d }
 
-abbrev pub with_fault_at : ℕ → Rule → Progress → Progress
+abbrev pub with_fault_at : ℕ → Cause → Progress → Progress
 with_fault_at place r p = with_draft (noted_at place r p.draft) p
 
 -- ---- WITH
@@ -77,7 +77,7 @@ is_known (s ∷ ss) name = bytes_eq s.name name || is_known ss name
 -- a name that an input or an earlier definition has
 abbrev pub known_noted : Name → Progress → Progress
 known_noted name p =
-    if is_known p.known name.text then with_fault_at name.place rule.NameTwice p else p
+    if is_known p.known name.text then with_fault_at name.place cause.NameTwice p else p
 
 abbrev pub definition : List ℕ → ℕ → List ResultColumn → KnownSource
 definition name step columns =
@@ -103,7 +103,7 @@ max_definitions = 16
 
 abbrev pub excess_definition_noted : Option Def → Progress → Progress
 excess_definition_noted None p = p
-excess_definition_noted (Some def) p = with_fault_at def.name.place rule.TooMany p
+excess_definition_noted (Some def) p = with_fault_at def.name.place cause.TooMany p
 
 abbrev pub definitions_noted : List Def → Progress → Progress
 definitions_noted more p = excess_definition_noted (slice_get more (max_definitions - 1)) p
@@ -133,7 +133,7 @@ is_output_name (b ∷ bs) = is_output_byte b && is_output_name bs
 
 abbrev pub output_name_noted : Name → Progress → Progress
 output_name_noted name p =
-    if is_output_name name.text then p else with_fault_at name.place rule.Unsupported p
+    if is_output_name name.text then p else with_fault_at name.place cause.Unsupported p
 
 abbrev pub is_output : List Output → List ℕ → Bool
 is_output [] name = false
@@ -141,7 +141,7 @@ is_output (o ∷ os) name = bytes_eq o.name name || is_output os name
 
 abbrev pub output_twice_noted : Name → Progress → Progress
 output_twice_noted name p =
-    if is_output p.outputs name.text then with_fault_at name.place rule.NameTwice p else p
+    if is_output p.outputs name.text then with_fault_at name.place cause.NameTwice p else p
 
 -- how many outputs a script may have
 abbrev pub max_outputs : ℕ
@@ -149,7 +149,7 @@ max_outputs = 8
 
 abbrev pub output_count_noted : ℕ → Progress → Progress
 output_count_noted place p =
-    if length p.outputs == max_outputs then with_fault_at place rule.TooMany p else p
+    if length p.outputs == max_outputs then with_fault_at place cause.TooMany p else p
 
 abbrev pub text_of_name : Name → List ℕ
 text_of_name n = n.text

@@ -8,7 +8,7 @@ use Rattle.query_tree.specs.declared.select.GroupBy.{GroupBy}
 use Rattle.query_tree.specs.declared.select.Having.{Having}
 use Rattle.query_tree.specs.declared.select.SelectItems.{SelectItems}
 use Rattle.query_tree.specs.declared.select.Tail.{Tail}
-use Rattle.query_forms.specs.declared.fault.Rule.TheVariants as rule
+use Rattle.query_forms.specs.declared.fault.Cause.TheVariants as cause
 use Rattle.query_readings.specs.declared.reading.AggregateCall.{AggregateCall}
 use Rattle.query_readings.specs.declared.reading.Side.TheVariants.{Rows, Groups}
 use Rattle.query_readings.specs.declared.scope.GroupKey.{GroupKey}
@@ -88,7 +88,7 @@ projected p d = projection p (picked_noted p d)
 -- HAVING without groups isn't built
 abbrev pub having_refused : Option Having → Draft → Draft
 having_refused None d = d
-having_refused (Some h) d = noted_at h.place rule.Unsupported d
+having_refused (Some h) d = noted_at h.place cause.Unsupported d
 
 unfoldable pub plain_columns : Scope → SelectItems → List ResultColumn
 plain_columns scope items = (picked_of scope Rows items).columns

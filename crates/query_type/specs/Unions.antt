@@ -4,7 +4,7 @@ use Rattle.event_value.specs.declared.kind.Kind.{Kind}
 use Rattle.query_plan.specs.declared.plan.Step.TheVariants as step
 use Rattle.query_tree.specs.declared.script.Union.{Union}
 use Rattle.query_tree.specs.declared.select.Select.{Select}
-use Rattle.query_forms.specs.declared.fault.Rule.TheVariants as rule
+use Rattle.query_forms.specs.declared.fault.Cause.TheVariants as cause
 use Rattle.query_forms.specs.Kinds.{is_same_kind}
 use Rattle.query_readings.specs.Same.{all_hold}
 use Rattle.query_sources.specs.declared.draft.Draft.{Draft}
@@ -50,7 +50,7 @@ joined_columns known columns s = merged_columns columns (columns_of_select known
 -- columns that differ are refused at the later SELECT
 abbrev pub kinds_noted : List ResultColumn → List ResultColumn → ℕ → Draft → Draft
 kinds_noted columns others place d =
-    if are_equal_columns columns others then d else noted_at place rule.Kind d
+    if are_equal_columns columns others then d else noted_at place cause.Kind d
 
 abbrev pub union_step : ℕ → Draft → Draft
 union_step first d = with_step (step.Union first d.last) d

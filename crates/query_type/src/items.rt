@@ -4,7 +4,7 @@ ghost use Rattle.std.specs.Prelude.{◌≡◌, ◌++◌, ◌+◌, IfOk, OnOk, le
 ghost use Rattle.query_type.specs.Items as spec;
 
 use event_value::{Copies, Memory, Seq, Text};
-use query_forms::{Checked, Fault, Rule, Valued, push_faults};
+use query_forms::{Cause, Checked, Fault, Valued, push_faults};
 use query_plan::Expr;
 use query_readings::{Face, Scope, ScopeColumn, Side, take_side};
 use query_senses::read_expr;
@@ -99,7 +99,7 @@ fn push_excess(more: &[Item], picked: &mut Picked) -> Result<(), Memory>
         None => Ok(()),
         Some(item) => picked.faults.push(Fault {
             place: item.place,
-            rule: Rule::TooMany,
+            cause: Cause::TooMany,
         }),
     }
 }
@@ -144,7 +144,7 @@ fn push_side(side: Side, place: u32, picked: &mut Picked) -> Result<(), Memory>
         Side::Rows => Ok(()),
         Side::Groups => picked.faults.push(Fault {
             place,
-            rule: Rule::NotGrouped,
+            cause: Cause::NotGrouped,
         }),
     }
 }

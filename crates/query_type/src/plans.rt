@@ -11,7 +11,7 @@ use crate::unions::{join_selects, read_union};
 use crate::uses::uses_of;
 use event_value::{Copies, Memory, Seq, Text};
 use input_types::Inputs;
-use query_forms::{Fault, Rule, least, push_faults};
+use query_forms::{Cause, Fault, least, push_faults};
 use query_plan::{Output, Plan};
 use query_sources::{
     Draft, KnownSource, Origin, faults_of_mentions, names_of_script, references_of, streams_of,
@@ -83,7 +83,7 @@ fn note_known(name: &Name, progress: &mut Progress) -> Result<(), Memory>
     ensures { OnOk result (progress.new ≡ spec.known_noted name.now progress.old) }
 {
     if is_known(progress.known.items(), name.text.items()) {
-        return progress.draft.note(name.place, Rule::NameTwice);
+        return progress.draft.note(name.place, Cause::NameTwice);
     }
     Ok(())
 }
@@ -113,7 +113,7 @@ fn note_excess(more: &[Def], progress: &mut Progress) -> Result<(), Memory>
 {
     match more.get(MAX_DEFINITIONS - 1) {
         None => Ok(()),
-        Some(def) => progress.draft.note(def.name.place, Rule::TooMany),
+        Some(def) => progress.draft.note(def.name.place, Cause::TooMany),
     }
 }
 
@@ -166,14 +166,14 @@ fn note_output_name(name: &Name, progress: &mut Progress) -> Result<(), Memory>
     if is_output_name(name.text.items()) {
         return Ok(());
     }
-    progress.draft.note(name.place, Rule::Unsupported)
+    progress.draft.note(name.place, Cause::Unsupported)
 }
 
 fn note_output_twice(name: &Name, progress: &mut Progress) -> Result<(), Memory>
     ensures { OnOk result (progress.new ≡ spec.output_twice_noted name.now progress.old) }
 {
     if is_output(progress.outputs.items(), name.text.items()) {
-        return progress.draft.note(name.place, Rule::NameTwice);
+        return progress.draft.note(name.place, Cause::NameTwice);
     }
     Ok(())
 }
@@ -182,7 +182,7 @@ fn note_output_count(place: u32, progress: &mut Progress) -> Result<(), Memory>
     ensures { OnOk result (progress.new ≡ spec.output_count_noted place progress.old) }
 {
     if progress.outputs.items().len() == MAX_OUTPUTS {
-        return progress.draft.note(place, Rule::TooMany);
+        return progress.draft.note(place, Cause::TooMany);
     }
     Ok(())
 }

@@ -6,7 +6,7 @@ ghost use Rattle.query_type.specs.Selects as spec;
 use crate::grouped::open_groups;
 use crate::items::{Picked, column_names, read_items};
 use event_value::{Memory, Seq};
-use query_forms::Rule;
+use query_forms::Cause;
 use query_plan::Step;
 use query_readings::{Scope, Side};
 use query_sources::{
@@ -114,7 +114,7 @@ fn refuse_having(having: &Option<Having>, draft: &mut Draft) -> Result<(), Memor
 {
     match having {
         None => Ok(()),
-        Some(having) => draft.note(having.place, Rule::Unsupported),
+        Some(having) => draft.note(having.place, Cause::Unsupported),
     }
 }
 

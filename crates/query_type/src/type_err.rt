@@ -4,7 +4,7 @@ ghost use Rattle.std.specs.Prelude.{◌≡◌};
 ghost use Rattle.query_type.specs.Refusals.{err_of_fault, no_memory};
 
 use event_value::Memory;
-use query_forms::{Fault, Rule};
+use query_forms::{Cause, Fault};
 
 /// Why a script has no plan, each but the last with the place of the part that breaks the rule.
 #[derive(Clone, Copy, PartialEq, Eq)]
@@ -50,18 +50,18 @@ pub fn err_of_fault(fault: Fault) -> TypeErr
     ensures { result ≡ err_of_fault fault }
 {
     let place = fault.place;
-    match fault.rule {
-        Rule::UnknownSource => TypeErr::UnknownSource(place),
-        Rule::UnknownColumn => TypeErr::UnknownColumn(place),
-        Rule::Ambiguous => TypeErr::Ambiguous(place),
-        Rule::Kind => TypeErr::Kind(place),
-        Rule::Aggregate => TypeErr::Aggregate(place),
-        Rule::NotGrouped => TypeErr::NotGrouped(place),
-        Rule::Window => TypeErr::Window(place),
-        Rule::Bound => TypeErr::Bound(place),
-        Rule::StampTwice => TypeErr::StampTwice(place),
-        Rule::NameTwice => TypeErr::NameTwice(place),
-        Rule::TooMany => TypeErr::TooMany(place),
-        Rule::Unsupported => TypeErr::Unsupported(place),
+    match fault.cause {
+        Cause::UnknownSource => TypeErr::UnknownSource(place),
+        Cause::UnknownColumn => TypeErr::UnknownColumn(place),
+        Cause::Ambiguous => TypeErr::Ambiguous(place),
+        Cause::Kind => TypeErr::Kind(place),
+        Cause::Aggregate => TypeErr::Aggregate(place),
+        Cause::NotGrouped => TypeErr::NotGrouped(place),
+        Cause::Window => TypeErr::Window(place),
+        Cause::Bound => TypeErr::Bound(place),
+        Cause::StampTwice => TypeErr::StampTwice(place),
+        Cause::NameTwice => TypeErr::NameTwice(place),
+        Cause::TooMany => TypeErr::TooMany(place),
+        Cause::Unsupported => TypeErr::Unsupported(place),
     }
 }

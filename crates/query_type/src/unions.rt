@@ -5,7 +5,7 @@ ghost use Rattle.query_type.specs.Unions as spec;
 
 use crate::selects::read_select;
 use event_value::{Copies, Kind, Memory, Seq};
-use query_forms::{Rule, is_same_kind};
+use query_forms::{Cause, is_same_kind};
 use query_plan::Step;
 use query_sources::{Draft, KnownSource, ResultColumn};
 use query_tree::{Select, Union};
@@ -111,7 +111,7 @@ fn join_select(
         draft,
     )?;
     if !are_equal_columns(columns, next.items()) {
-        draft.note(select.place, Rule::Kind)?;
+        draft.note(select.place, Cause::Kind)?;
     }
     draft.go_on(Step::Union {
         first,

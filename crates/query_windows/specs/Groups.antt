@@ -11,8 +11,8 @@ use Rattle.query_tree.specs.declared.select.Group.{Group}
 use Rattle.query_tree.specs.declared.select.GroupBy.{GroupBy}
 use Rattle.query_tree.specs.declared.select.Partition.{Partition}
 use Rattle.query_forms.specs.declared.fault.Fault.{Fault}
-use Rattle.query_forms.specs.declared.fault.Rule.{Rule}
-use Rattle.query_forms.specs.declared.fault.Rule.TheVariants as rule
+use Rattle.query_forms.specs.declared.fault.Cause.{Cause}
+use Rattle.query_forms.specs.declared.fault.Cause.TheVariants as cause
 use Rattle.query_readings.specs.declared.scope.GroupKey.{GroupKey}
 use Rattle.query_readings.specs.declared.scope.Scope.{Scope}
 use Rattle.query_forms.specs.declared.sense.Valued.{Valued}
@@ -123,7 +123,7 @@ abbrev pub with_key : Checked Valued → Grouping → Grouping
 with_key (Ok v) g = record g { keys = g.keys ++ group_key (length g.keys) v ∷ [] }
 with_key (Err faults) g = with_faults faults g
 
-abbrev pub with_fault_at : ℕ → Rule → Grouping → Grouping
+abbrev pub with_fault_at : ℕ → Cause → Grouping → Grouping
 with_fault_at place r g = record g { faults = g.faults ++ fault_at place r ∷ [] }
 
 -- the parts are told apart by these columns
@@ -133,7 +133,7 @@ with_parts c g = record g { parts = c.found; faults = g.faults ++ c.faults }
 abbrev pub with_partition : Scope → ℕ → Bool → Partition → Grouping → Grouping
 with_partition scope place session p g =
     if session then with_parts (columns_listed scope.sources p.first p.more) g
-    else with_fault_at place rule.Unsupported g
+    else with_fault_at place cause.Unsupported g
 
 abbrev pub with_over_columns : Scope → Group → Option Partition → Grouping → Grouping
 with_over_columns scope group None g = g
@@ -162,14 +162,14 @@ max_groups = 16
 
 abbrev pub with_excess_group : Option Group → Grouping → Grouping
 with_excess_group None g = g
-with_excess_group (Some group) g = with_fault_at group.place rule.TooMany g
+with_excess_group (Some group) g = with_fault_at group.place cause.TooMany g
 
 abbrev pub with_excess : GroupBy → Grouping → Grouping
 with_excess groups g = with_excess_group (slice_get groups.more (max_groups - 1)) g
 
 abbrev pub with_windows : ℕ → List (Option Window) → Grouping → Grouping
 with_windows place (w ∷ []) g = g
-with_windows place _ g = with_fault_at place rule.Window g
+with_windows place _ g = with_fault_at place cause.Window g
 
 -- a select has exactly one window
 abbrev pub with_one_window : ℕ → Grouping → Grouping

@@ -3,7 +3,7 @@ use Rattle.std.specs.Prelude.{ℕ, Bool, ◌&&◌, if◌then◌else◌, Option, 
 use Rattle.tick_time.specs.Span.{span_of_units}
 use Rattle.tick_time.specs.Unit.{is_name}
 use Rattle.query_tree.specs.declared.expr.Args.{Args}
-use Rattle.query_forms.specs.declared.fault.Rule.TheVariants as rule
+use Rattle.query_forms.specs.declared.fault.Cause.TheVariants as cause
 use Rattle.query_forms.specs.Faults.{Checked, refused}
 use Rattle.query_windows.specs.declared.arguments.Argument.{Argument}
 use Rattle.query_windows.specs.declared.lengths.Length.{Length}
@@ -36,36 +36,36 @@ is_grid size hop =
 
 abbrev pub unless_offset : Option ℕ → Window → Checked Window
 unless_offset None w = Ok w
-unless_offset (Some at) w = refused at rule.Unsupported
+unless_offset (Some at) w = refused at cause.Unsupported
 
 -- a window of a size and a hop; an offset isn't built
 abbrev pub grid_of_spans : ℕ → ℤ → ℤ → Option ℕ → Checked Window
 grid_of_spans place size hop offset =
     if is_grid size hop then unless_offset offset (window.Grid size hop)
-    else refused place rule.Window
+    else refused place cause.Window
 
 abbrev pub grid_with : ℕ → Option ℤ → Option ℤ → Option ℕ → Checked Window
 grid_with place (Some size) (Some hop) offset = grid_of_spans place size hop offset
-grid_with place (Some size) None offset = refused place rule.Window
-grid_with place None hop offset = refused place rule.Window
+grid_with place (Some size) None offset = refused place cause.Window
+grid_with place None hop offset = refused place cause.Window
 
 abbrev pub span_of_length : Length → Option ℤ
 span_of_length l = span_of_units l.unit l.count
 
 abbrev pub grid_of : ℕ → Option Lengths → Checked Window
-grid_of place None = refused place rule.Window
+grid_of place None = refused place cause.Window
 grid_of place (Some l) = grid_with place (span_of_length l.size) (span_of_length l.hop) l.offset
 
 abbrev pub snapshot_of : ℕ → List Argument → Checked Window
 snapshot_of place [] = Ok window.Snapshot
-snapshot_of place (a ∷ given) = refused place rule.Window
+snapshot_of place (a ∷ given) = refused place cause.Window
 
 abbrev pub grid_with_arguments : ℕ → (List Argument → Option Lengths) → Option (List Argument) → Checked Window
-grid_with_arguments place f None = refused place rule.Window
+grid_with_arguments place f None = refused place cause.Window
 grid_with_arguments place f (Some given) = grid_of place (f given)
 
 abbrev pub snapshot_with_arguments : ℕ → Option (List Argument) → Checked Window
-snapshot_with_arguments place None = refused place rule.Window
+snapshot_with_arguments place None = refused place cause.Window
 snapshot_with_arguments place (Some given) = snapshot_of place given
 
 -- a length above 0
@@ -74,29 +74,29 @@ above_zero None = None
 above_zero (Some z) = if int_lt (pos 0) z then Some z else None
 
 abbrev pub sliding_of_span : ℕ → Option ℤ → Checked Window
-sliding_of_span place None = refused place rule.Window
+sliding_of_span place None = refused place cause.Window
 sliding_of_span place (Some size) = Ok (window.Sliding size)
 
 abbrev pub sliding_of_length : ℕ → Option Length → Checked Window
-sliding_of_length place None = refused place rule.Window
+sliding_of_length place None = refused place cause.Window
 sliding_of_length place (Some l) = sliding_of_span place (above_zero (span_of_length l))
 
 abbrev pub sliding_with_arguments : ℕ → Option (List Argument) → Checked Window
-sliding_with_arguments place None = refused place rule.Window
+sliding_with_arguments place None = refused place cause.Window
 sliding_with_arguments place (Some given) = sliding_of_length place (sliding_of given)
 
 abbrev pub session_of_spans : ℕ → Option ℤ → Option ℤ → Checked Window
 session_of_spans place (Some timeout) (Some most) = Ok (window.Session timeout most)
-session_of_spans place (Some timeout) None = refused place rule.Window
-session_of_spans place None most = refused place rule.Window
+session_of_spans place (Some timeout) None = refused place cause.Window
+session_of_spans place None most = refused place cause.Window
 
 abbrev pub session_of_lengths : ℕ → Option SessionLengths → Checked Window
-session_of_lengths place None = refused place rule.Window
+session_of_lengths place None = refused place cause.Window
 session_of_lengths place (Some l) =
     session_of_spans place (above_zero (span_of_length l.timeout)) (above_zero (span_of_length l.most))
 
 abbrev pub session_with_arguments : ℕ → Option (List Argument) → Checked Window
-session_with_arguments place None = refused place rule.Window
+session_with_arguments place None = refused place cause.Window
 session_with_arguments place (Some given) = session_of_lengths place (session_of given)
 
 abbrev pub window_with : ℕ → WindowName → Option (List Argument) → Checked Window

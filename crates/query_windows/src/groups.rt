@@ -5,7 +5,7 @@ ghost use Rattle.query_windows.specs.Groups as spec;
 
 use crate::windows::{Window, WindowName, window_named, window_of};
 use event_value::{Memory, Seq};
-use query_forms::{Checked, Fault, Rule, Valued, push_faults};
+use query_forms::{Cause, Checked, Fault, Valued, push_faults};
 use query_literals::bare_primary;
 use query_readings::{GroupKey, Scope, is_time};
 use query_senses::read_expr;
@@ -183,7 +183,7 @@ fn push_partition(
     if !is_session(&group.expr) {
         return grouping.faults.push(Fault {
             place: group.place,
-            rule: Rule::Unsupported,
+            cause: Cause::Unsupported,
         });
     }
     let columns = columns_listed(
@@ -237,7 +237,7 @@ fn push_excess(groups: &GroupBy, grouping: &mut Grouping) -> Result<(), Memory>
         None => Ok(()),
         Some(group) => grouping.faults.push(Fault {
             place: group.place,
-            rule: Rule::TooMany,
+            cause: Cause::TooMany,
         }),
     }
 }
@@ -249,7 +249,7 @@ fn push_count(groups: &GroupBy, grouping: &mut Grouping) -> Result<(), Memory>
         [_] => Ok(()),
         _ => grouping.faults.push(Fault {
             place: groups.place,
-            rule: Rule::Window,
+            cause: Cause::Window,
         }),
     }
 }

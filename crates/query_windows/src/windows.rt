@@ -8,7 +8,7 @@ use crate::lengths::{
     Length, Lengths, SessionLengths, hopping_of, session_of, sliding_of, tumbling_of,
 };
 use event_value::Memory;
-use query_forms::{Checked, Rule, refuse};
+use query_forms::{Cause, Checked, refuse};
 use query_tree::Args;
 use std::alloc::Global;
 use tick_time::{Span, is_name, span_of};
@@ -76,10 +76,10 @@ fn grid_of_spans(
     ensures { IfOk result (λ window. window ≡ spec.grid_of_spans place size hop offset) }
 {
     if !is_grid(size.ticks(), hop.ticks()) {
-        return refuse(alloc, place, Rule::Window);
+        return refuse(alloc, place, Cause::Window);
     }
     match offset {
-        Some(at) => refuse(alloc, at, Rule::Unsupported),
+        Some(at) => refuse(alloc, at, Cause::Unsupported),
         None => Ok(Ok(Window::Grid(size, hop))),
     }
 }
@@ -95,9 +95,9 @@ fn grid_of_lengths(
         window ≡ spec.grid_with place (spec.span_of_length size) (spec.span_of_length hop) offset) }
 {
     match span_of(size.unit, size.count) {
-        None => refuse(alloc, place, Rule::Window),
+        None => refuse(alloc, place, Cause::Window),
         Some(size) => match span_of(hop.unit, hop.count) {
-            None => refuse(alloc, place, Rule::Window),
+            None => refuse(alloc, place, Cause::Window),
             Some(hop) => grid_of_spans(alloc, place, size, hop, offset),
         },
     }
@@ -107,7 +107,7 @@ fn grid_of(alloc: Global, place: u32, lengths: Option<Lengths>) -> Result<Checke
     ensures { IfOk result (λ window. window ≡ spec.grid_of place lengths) }
 {
     match lengths {
-        None => refuse(alloc, place, Rule::Window),
+        None => refuse(alloc, place, Cause::Window),
         Some(lengths) => {
             grid_of_lengths(alloc, place, lengths.size, lengths.hop, lengths.offset)
         }
@@ -119,7 +119,7 @@ fn snapshot_of(alloc: Global, place: u32, arguments: &[Argument]) -> Result<Chec
 {
     match arguments {
         [] => Ok(Ok(Window::Snapshot)),
-        [_, ..] => refuse(alloc, place, Rule::Window),
+        [_, ..] => refuse(alloc, place, Cause::Window),
     }
 }
 
@@ -141,9 +141,9 @@ fn sliding_window(
     ensures { IfOk result (λ window. window ≡ spec.sliding_of_length place length) }
 {
     match length {
-        None => refuse(alloc, place, Rule::Window),
+        None => refuse(alloc, place, Cause::Window),
         Some(length) => match span_above_zero(length) {
-            None => refuse(alloc, place, Rule::Window),
+            None => refuse(alloc, place, Cause::Window),
             Some(size) => Ok(Ok(Window::Sliding(size))),
         },
     }
@@ -157,11 +157,11 @@ fn session_window(
     ensures { IfOk result (λ window. window ≡ spec.session_of_lengths place lengths) }
 {
     match lengths {
-        None => refuse(alloc, place, Rule::Window),
+        None => refuse(alloc, place, Cause::Window),
         Some(lengths) => match span_above_zero(lengths.timeout) {
-            None => refuse(alloc, place, Rule::Window),
+            None => refuse(alloc, place, Cause::Window),
             Some(timeout) => match span_above_zero(lengths.most) {
-                None => refuse(alloc, place, Rule::Window),
+                None => refuse(alloc, place, Cause::Window),
                 Some(most) => Ok(Ok(Window::Session(timeout, most))),
             },
         },
@@ -194,11 +194,11 @@ fn window_without_arguments(
     ensures { IfOk result (λ window. window ≡ spec.window_with place name None) }
 {
     match name {
-        WindowName::Tumbling => refuse(alloc, place, Rule::Window),
-        WindowName::Hopping => refuse(alloc, place, Rule::Window),
-        WindowName::Snapshot => refuse(alloc, place, Rule::Window),
-        WindowName::Sliding => refuse(alloc, place, Rule::Window),
-        WindowName::Session => refuse(alloc, place, Rule::Window),
+        WindowName::Tumbling => refuse(alloc, place, Cause::Window),
+        WindowName::Hopping => refuse(alloc, place, Cause::Window),
+        WindowName::Snapshot => refuse(alloc, place, Cause::Window),
+        WindowName::Sliding => refuse(alloc, place, Cause::Window),
+        WindowName::Session => refuse(alloc, place, Cause::Window),
     }
 }
 
