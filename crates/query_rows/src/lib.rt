@@ -24,4 +24,6 @@ mod plan_texts;
 #[cfg(test)]
 mod plans;
 #[cfg(test)]
+mod sizes;
+#[cfg(test)]
 mod unsupported;

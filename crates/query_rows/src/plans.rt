@@ -57,6 +57,8 @@ fn groups_are_planned(rt: HostRuntime) -> Result<(), Fail> {
 const GROUPS: &str = "
 SELECT b, COUNT(*) AS n, SUM(a) AS s INTO out FROM src GROUP BY b, TumblingWindow(second, 60) => Source Project Grid Project
 SELECT b, COUNT(*) AS n INTO out FROM src GROUP BY b, TumblingWindow(second, 60) HAVING COUNT(*) > 1 => Source Project Grid Filter Project
+SELECT b, COUNT(*) AS n INTO out FROM src GROUP BY b, 'a', TumblingWindow(second, 60) HAVING b LIKE 'a' => Source Project Grid Filter Project
+SELECT 'a' AS x INTO out FROM src WHERE b LIKE 'a' GROUP BY 'a', TumblingWindow(second, 60) => Source Filter Project Grid Project
 SELECT AVG(c) AS m INTO out FROM src WHERE a > 0 GROUP BY HoppingWindow(minute, 10, 5) => Source Filter Project Grid Project
 SELECT MIN(b), MAX(t), COUNT(DISTINCT k) INTO out FROM src GROUP BY TumblingWindow(Duration(hour, 1)) => Source Project Grid Project
 SELECT COUNT(a) INTO out FROM src GROUP BY HoppingWindow(Duration(hour, 1), Hop(minute, 5)) => Source Project Grid Project

@@ -1,7 +1,7 @@
 //! Readings of small trees, worked out by hand.
 
 use event_value::{Kind, Memory, Seq, Text, Value};
-use query_forms::{Rule, Sense};
+use query_forms::{Cause, Sense};
 use query_plan::Expr;
 use query_readings::{Reading, Scope, ScopeColumn, ScopeSource};
 use query_senses::read_expr;
@@ -87,10 +87,10 @@ fn is_column(reading: &Reading, number: u16) -> bool {
 }
 
 /// Whether a reading has one fault, of this rule at this place.
-fn is_refused(reading: &Reading, place: u32, rule: Rule) -> bool {
+fn is_refused(reading: &Reading, place: u32, cause: Cause) -> bool {
     match &reading.rows {
         Err(faults) => match faults.items() {
-            [fault] => fault.place == place && fault.rule == rule,
+            [fault] => fault.place == place && fault.cause == cause,
             _ => false,
         },
         _ => false,
@@ -113,7 +113,7 @@ fn a_column_is_found_by_its_name(rt: HostRuntime) -> Result<(), Fail> {
     let scope = scope(alloc)?;
     assert!(rt; is_column(&read_expr(alloc, &scope, &column(alloc, "a")?)?, 3));
     let missing = read_expr(alloc, &scope, &column(alloc, "z")?)?;
-    assert!(rt; is_refused(&missing, 7, Rule::UnknownColumn));
+    assert!(rt; is_refused(&missing, 7, Cause::UnknownColumn));
     assert!(rt; is_null(&read_expr(alloc, &scope, &alone(alloc, Primary::Null(7)))?));
     Ok(())
 }
