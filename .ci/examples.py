@@ -6,6 +6,7 @@ Then runs the texts of GUIDE's "Reading a refusal" by the program that the gate 
 the line that stands beside it, and what is to be written instead is taken; QUERY's parts of texts are theirs.
 Where no program is built, no text is run. With --unproved they are run before anything is proved.
 """
+import os
 import pathlib
 import re
 import shutil
@@ -87,6 +88,12 @@ if program[0] != str(BUILT) or BUILT.is_file():
     for better in dict.fromkeys(row[2] for row in table):
         found = answer(better)
         expect(found and not found.startswith("error"), f"{better} gives {found}")
+
+# A word of the command line that is no text is refused like any other wrong word.
+if BUILT.is_file():
+    ran += 1
+    done = subprocess.run([os.fsencode(str(BUILT)), b"-", b"check", b"\xff", b"inputs.toml"], stdout=subprocess.PIPE, stderr=subprocess.DEVNULL)
+    expect((done.returncode, done.stdout) == (2, b"error 2 Usage\n"), f"a word that is no text gives {done.returncode}, {done.stdout}")
 
 # QUERY: a part of a text of GUIDE's table, the refusal and the word at its place, a part of the text to be written.
 parts = list(rows(QUERY, "Written there | Refused here | To be written"))
