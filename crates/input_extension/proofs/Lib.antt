@@ -1,0 +1,6 @@
+pub mod GrownLemmas
+pub mod WalkLemmas
+pub mod PreorderLemmas
+pub mod RefusalLemmas
+pub mod KeptLemmas
+pub mod ExtendingLemmas
