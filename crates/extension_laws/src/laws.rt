@@ -15,5 +15,6 @@ pub fn what_extends_is_well_formed()
 
 /// What well-formed inputs go on from is well formed.
 pub fn what_is_extended_is_well_formed()
-    ensures { (old new : Inputs) (w : ℕ) → IsExtension old new w → IsWellFormed new → IsWellFormed old }
+    ensures { (old new : Inputs) (w : ℕ) → IsExtension old new w
+        → IsWellFormed new → IsWellFormed old }
 {}

@@ -1,6 +1,6 @@
 //! Extended inputs documents and well-formed ones.
-//! What matters: laws.rt: what a well-formed document goes on from is well formed, and what goes on
-//! from a well-formed document is, where its segments and snapshots keep their limits and their order.
+//! What matters: laws.rt: what a well-formed document goes on from is well formed, and what goes
+//! on from one is, where its segments and snapshots keep their limits and their order.
 //! What well formed means stands in input_book, and what goes on in input_extension.
 #![tactic(auto)]
 
