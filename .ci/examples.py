@@ -1,5 +1,5 @@
 #!/usr/bin/env python3
-"""Compares the files of examples/ with their texts in the tests of the program, which the gate runs.
+"""Compares the files of examples/, and the batch of docs/FORMATS, with what the tests of the program have.
 
 Each file of an example stands in the tests as a literal, and the stored run of the program is one of them.
 Then runs the texts of GUIDE's "Reading a refusal" by the program that the gate has built: each is refused with
@@ -103,6 +103,13 @@ for written, refusal, better in parts:
     expect(any(code(written) in text and code(better) in instead and line.split()[2] == f"Query.{name}"
                and text.encode()[int(line.split()[3]):].decode().startswith(word) for text, line, instead in table),
            f"{written} isn't refused so in GUIDE, or {better} isn't written there")
+
+# The batch that FORMATS shows byte by byte is the one of the test.
+shown = re.findall(r"^ *\d+  ((?:[0-9a-f]{2} )*[0-9a-f]{2})(?: |$)", (TOP / "docs/FORMATS.md").read_text(), re.M)
+batches = (TOP / "crates/byte_rows/src/batches.rt").read_text()
+tested = re.findall(r"0x([0-9a-f]{2})", batches.split("const WORKED")[1].split("];")[0])
+if " ".join(shown).split() != tested:
+    missing.append("docs/FORMATS.md shows another batch than crates/byte_rows has")
 
 for line in missing:
     print(line)
